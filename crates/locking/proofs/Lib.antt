@@ -1,0 +1,9 @@
+pub mod Lists
+pub mod Put
+pub mod Sorted
+pub mod Tree
+pub mod Keep
+pub mod Serial
+pub mod Serializable
+pub mod Progress
+pub mod Sample

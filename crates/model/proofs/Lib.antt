@@ -1,0 +1,16 @@
+pub mod Tree
+pub mod Job
+pub mod Locks
+pub mod Alone
+pub mod History
+pub mod Step
+pub mod Calls
+pub mod Registers
+pub mod Stuck
+pub mod Ways
+pub mod Formed
+pub mod Decide
+pub mod Answered
+pub mod Once
+pub mod Examples
+pub mod Main

@@ -1,0 +1,5 @@
+pub mod Rows
+pub mod Gathering
+pub mod Trees
+pub mod Fine
+pub mod Formed

@@ -1,0 +1,11 @@
+pub mod Lists
+pub mod Parts
+pub mod Once
+pub mod Ranges
+pub mod Reading
+pub mod Encodes
+pub mod Files
+pub mod Cuts
+pub mod Starting
+pub mod Small
+pub mod Uses

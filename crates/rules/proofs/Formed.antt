@@ -7,9 +7,9 @@ use mathlib.Core.Logic.{_⊎_, inl, inr}
 use native.Mathlib.Omega.{arith}
 use lib.Dec.{eqb}
 use lib.ListN.{length, getD, take}
-use Rattle.locking.specs.Lists.{Mem}
 use Rattle.model.specs.Workload as model
-use Rattle.model.specs.Workload.{Above, self, over, Way, stay, onward, Well-formed}
+use Rattle.model.specs.Workload.{Way, Well-formed}
+use Rattle.model.proofs.Ways.{way-state}
 use Rattle.std.proofs.shelf.Tests.{cases-bool, cases-lt, eqb-true, eqb-false}
 use Rattle.rules.specs.declared.state.State.{State}
 use Rattle.rules.specs.Lawful.{Lawful, Packed}
@@ -17,22 +17,8 @@ use Rattle.rules.specs.Reach.{Reaches, here, step}
 use Rattle.rules.specs.Rules.{Arc, Connected, Parent, Placed, Rooted, Terminal, nowhere, root-mark}
 use Rattle.rules.specs.View.{arcsOf, stateAt, topOf, workload-of}
 use Rattle.rules.proofs.Fine.{Fine-type, In-range}
-use Rattle.rules.proofs.Gathering.{no-arc}
+use Rattle.rules.proofs.Matching.{above-reaches, mem-place, place-mem, reaches-above, reaches-way, way-reaches}
 use Rattle.rules.proofs.Trees.{Tree, tree-from, tree-rooted}
-
--- arcs by place and by list
-pub mem-place : (c : ℕ) (xs : List ℕ) (m : ℕ) → Mem m (take c xs) → (k : ℕ) × (k < length xs) × (k < c) × (getD xs k 0 ≡ m)
-mem-place zero xs m h = absurd h
-mem-place (suc c) [] m h = absurd h
-mem-place (suc c) (x ∷ xs) m (inl e) = (0, omega arith, omega arith, sym e)
-mem-place (suc c) (x ∷ xs) m (inr h) =
-    let r = mem-place c xs m h in (suc (r .0), (let i = r .1 in omega arith), (let i = r .2 in omega arith), r .3)
-
-pub place-mem : (c : ℕ) (xs : List ℕ) (m k : ℕ) → k < length xs → k < c → getD xs k 0 ≡ m → Mem m (take c xs)
-place-mem zero xs m k l h e = absurd (omega arith)
-place-mem (suc c) [] m k l h e = absurd (omega arith)
-place-mem (suc c) (x ∷ xs) m zero l h e = inl (sym e)
-place-mem (suc c) (x ∷ xs) m (suc k) l h e = inr (place-mem c xs m k (omega arith) (omega arith) e)
 
 take-none : (c : ℕ) (xs : List ℕ) → 0 < length xs → take c xs ≡ [] → c ≡ 0
 take-none zero xs h e = refl
@@ -85,12 +71,6 @@ module _ (parents : List ℕ) (codes : ℕ) (types : List (List State)) where
         subst (λ (x : ℕ). Reaches (Parent parents) d x)
         (sym (top-only parents (topOf parents) (the-tree .root) few marked (the-tree .up (topOf parents) top-item))) (the-tree .up d i)
 
-    reaches-above : {a d : ℕ} → Reaches (Parent parents) d a → Above (workload-of parents codes types) a d
-    reaches-above here = self
-    reaches-above (step {s = d} {m = m} {t = a} p q) =
-        over d (λ e. let i = p .2 in let j = p .1 in let k = ap (λ (x : ℕ). getD parents x 0) e in let l = marked in let f = few in absurd (omega arith))
-        (subst (λ (x : ℕ). Above (workload-of parents codes types) a x) (sym (p .1)) (reaches-above q))
-
     up-item : (d : ℕ) → d < length parents → ¬ (d ≡ topOf parents) → getD parents d 0 < length parents
     up-item d i n = go (rises d i) n
       where
@@ -99,36 +79,28 @@ module _ (parents : List ℕ) (codes : ℕ) (types : List (List State)) where
         go (step p q) n = let e = p .1 in let i = p .2 in omega arith
 
     module _ (t : ℕ) (ht : t < length types) where
-      arc-out : (s m : ℕ) → Arc (getD types t []) s m → model.Arc (workload-of parents codes types) t s m
-      arc-out s m a = elim (cases-lt s (length (getD types t []))) [
-        | inl i ↦ (let r = fine t ht .ranged s i .packed in
-            (i, place-mem (stateAt types t s .«arc_count») (stateAt types t s .arcs) m (a .1 .0) (let u = r .four in let v = a .1 .1 in omega arith) (a .1 .2) (a .1 .3)))
-        | inr i ↦ absurd (no-arc (getD types t []) s m i a)
-      ]
+      four : (s : ℕ) → s < length (getD types t []) → length (stateAt types t s .arcs) ≡ 4
+      four s i = fine t ht .ranged s i .packed .four
 
       leads : (m s : ℕ) → model.Arc (workload-of parents codes types) t m s → s < length (getD types t [])
       leads m s a =
           let p = mem-place (stateAt types t m .«arc_count») (stateAt types t m .arcs) s (a .1) in
           subst (λ (x : ℕ). x < length (getD types t [])) (p .3) (fine t ht .ranged m (a .0) .arcs (p .0) (p .2))
 
-      reaches-way : {a b : ℕ} → Reaches (Arc (getD types t [])) a b → Way (workload-of parents codes types) t a b
-      reaches-way {a} here = stay a
-      reaches-way (step {s = a} {m = m} {t = b} e q) = onward a m b (arc-out a m e) (reaches-way q)
-
     pub formed-from : Well-formed (workload-of parents codes types)
     formed-from =
         record {
           top-item = top-item;
           up-item = up-item;
-          tree = λ d i. reaches-above (rises d i);
+          tree = λ d i. reaches-above parents codes types few marked (rises d i);
           first-state = λ t i. let u = fine t i .some in omega arith;
           names-item = λ t s i j. fine t i .ranged s j .item;
           names-code = λ t s i j. fine t i .ranged s j .code;
           leads = λ t m s i a. leads t i m s a;
-          reached = λ t s i j. reaches-way t i (fine t i .connected s j .0);
+          reached = λ t s i j. reaches-way parents codes types t (four t i) (fine t i .connected s j .0);
           ending = λ t s i j.
               let e = fine t i .connected s j .1 in
-              (e .0, reaches-way t i (e .2), ap (λ (c : ℕ). take c (stateAt types t (e .0) .arcs)) (e .3));
+              (e .0, reaches-way parents codes types t (four t i) (e .2), ap (λ (c : ℕ). take c (stateAt types t (e .0) .arcs)) (e .3));
         }
 
   -- the rules are kept
@@ -136,38 +108,30 @@ module _ (parents : List ℕ) (codes : ℕ) (types : List (List State)) where
     F : Well-formed (workload-of parents codes types)
     F = L .formed
 
-    above-reaches : {a d : ℕ} → d < length parents → Above (workload-of parents codes types) a d → Reaches (Parent parents) d a
-    above-reaches i self = here
-    above-reaches i (over d n g) = step (i, refl, F .up-item d i n) (above-reaches (F .up-item d i n) g)
-
     pub rooted-of : (i : ℕ) → i < length parents → Rooted parents i
     rooted-of = tree-rooted parents (L .items .1)
         (record {
           root = topOf parents;
           is-root = (F .top-item, top-marked parents (F .top-item));
-          up = λ i l. above-reaches l (F .tree i l);
+          up = λ i l. above-reaches parents codes types (F .up-item) l (F .tree i l);
         })
 
     module _ (t : ℕ) (ht : t < length types) where
-      arc-in : (s m : ℕ) → model.Arc (workload-of parents codes types) t s m → Arc (getD types t []) s m
-      arc-in s m a =
-          let p = mem-place (stateAt types t s .«arc_count») (stateAt types t s .arcs) m (a .1) in
-          (F .leads t s m ht a, (p .0, (let u = L .packed t s ht (a .0) .four in let v = p .1 in omega arith), p .2, p .3))
+      four-of : (s : ℕ) → s < length (getD types t []) → length (stateAt types t s .arcs) ≡ 4
+      four-of s i = L .packed t s ht i .four
 
-      way-reaches : {a b : ℕ} → Way (workload-of parents codes types) t a b → Reaches (Arc (getD types t [])) a b
-      way-reaches (stay s) = here
-      way-reaches (onward s m r e w) = step (arc-in s m e) (way-reaches w)
+      leads-of : (s m : ℕ) → model.Arc (workload-of parents codes types) t s m → m < length (getD types t [])
+      leads-of s m a = F .leads t s m ht a
 
-      way-state : {a b : ℕ} → Way (workload-of parents codes types) t a b → a < length (getD types t []) → b < length (getD types t [])
-      way-state (stay s) i = i
-      way-state (onward s m r e w) i = way-state w (F .leads t s m ht e)
+      goes : {a b : ℕ} → Way (workload-of parents codes types) t a b → Reaches (Arc (getD types t [])) a b
+      goes w = way-reaches parents codes types t four-of leads-of w
 
       placed : (s : ℕ) → s < length (getD types t []) → Placed (getD types t []) s
       placed s i =
           let e = F .ending t s ht i in
-          let j = way-state (e .1) i in (
-            way-reaches (F .reached t s ht i),
-            (e .0, j, way-reaches (e .1), take-none (stateAt types t (e .0) .«arc_count») (stateAt types t (e .0) .arcs) (let u = L .packed t (e .0) ht j .four in omega arith) (e .2)),
+          let j = way-state (workload-of parents codes types) t leads-of (e .1) i in (
+            goes (F .reached t s ht i),
+            (e .0, j, goes (e .1), take-none (stateAt types t (e .0) .«arc_count») (stateAt types t (e .0) .arcs) (let u = L .packed t (e .0) ht j .four in omega arith) (e .2)),
           )
 
       arc-below : (s k : ℕ) → s < length (getD types t []) → k < stateAt types t s .«arc_count» → getD (stateAt types t s .arcs) k 0 < length (getD types t [])

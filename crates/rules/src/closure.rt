@@ -1,10 +1,11 @@
-// The reflexive and transitive closure of a relation on at most 64 numbers, held as a row of sets.
+// Relations on at most 64 numbers, each held as a row of sets: closure and converse.
 ghost use Prim.Native.Nat.{ℕ, _<_, _≤_};
 ghost use mathlib.Core.Bool.{_&&_, _||_, true};
 ghost use mathlib.Core.Path.{_≡_};
 ghost use lib.Dec.{eqb};
 ghost use lib.ListN.{length, getD};
 ghost use Rattle.rules.specs.Reach.{Joined, Reaches};
+ghost use Rattle.rules.specs.Sets.{Exactly};
 ghost use Rattle.itemset.specs.Members.{holds, nothing};
 use itemset::ItemSet;
 
@@ -41,4 +42,30 @@ pub(crate) fn close(rows: &mut [ItemSet])
         join_through(rows, k as u8);
     }
     join_selves(rows);
+}
+
+// The numbers whose row holds m.
+pub(crate) fn column(rows: &[ItemSet], m: u8) -> ItemSet
+    requires { ⌜ length (now rows) ≤ 64 ⌝ }
+    ensures { λ r. ⌜ Exactly r (λ s. Joined (now (rows .entry)) s m) ⌝ }
+{
+    let mut found = ItemSet::empty();
+    for s in 0..rows.len() {
+        if rows[s].contains(m) {
+            found.insert(s as u8);
+        }
+    }
+    found
+}
+
+// The converse relation: m is joined to s where s was joined to m.
+pub(crate) fn columns(rows: &[ItemSet]) -> [ItemSet; 32]
+    requires { ⌜ length (now rows) ≡ 32 ⌝ }
+    ensures { λ r. ⌜ ((m : ℕ) → m < 32 → Exactly (getD r m nothing) (λ s. Joined (now (rows .entry)) s m)) ⌝ }
+{
+    let mut all = [ItemSet::empty(); 32];
+    for m in 0..rows.len() {
+        all[m] = column(rows, m as u8);
+    }
+    all
 }

@@ -15,7 +15,7 @@ use itemset::ItemSet;
 pub const ROOT_MARK: u8 = 255;
 
 // As many items as a set can hold.
-const MOST_ITEMS: usize = 64;
+pub(crate) const MOST_ITEMS: usize = 64;
 
 // The parent of an item, if its byte names one.
 fn parent_set(parent: u8, n: u8) -> ItemSet

@@ -13,7 +13,7 @@ use crate::state::State;
 use itemset::ItemSet;
 
 // As many states as a job type may have.
-const MOST_STATES: usize = 32;
+pub(crate) const MOST_STATES: usize = 32;
 
 // The states below `count` that the arcs of a state lead to.
 fn next_states(state: &State, count: u8) -> ItemSet
@@ -30,16 +30,25 @@ fn next_states(state: &State, count: u8) -> ItemSet
     next
 }
 
-// For each state the states that can be reached from it.
-pub(crate) fn reached_from(states: &[State]) -> [ItemSet; 32]
+// For each state the states to which it has arcs.
+pub(crate) fn arcs_of(states: &[State]) -> [ItemSet; 32]
     requires { ⌜ length (now states) ≤ 32 ⌝ }
-    ensures { λ r. ⌜ ((s t : ℕ) → s < 32 → Decides (holds (getD r s nothing) t) (Reaches (Arc (now (states .entry))) s t)) ⌝ }
+    ensures { λ r. ⌜ ((s m : ℕ) → Decides (holds (getD r s nothing) m) (Arc (now (states .entry)) s m)) ⌝ }
 {
     let count = states.len() as u8;
     let mut rows = [ItemSet::empty(); 32];
     for s in 0..states.len() {
         rows[s] = next_states(&states[s], count);
     }
+    rows
+}
+
+// For each state the states that can be reached from it.
+pub(crate) fn reached_from(states: &[State]) -> [ItemSet; 32]
+    requires { ⌜ length (now states) ≤ 32 ⌝ }
+    ensures { λ r. ⌜ ((s t : ℕ) → s < 32 → Decides (holds (getD r s nothing) t) (Reaches (Arc (now (states .entry))) s t)) ⌝ }
+{
+    let mut rows = arcs_of(states);
     close(&mut rows);
     rows
 }

@@ -9,3 +9,4 @@ pub mod Cuts
 pub mod Starting
 pub mod Small
 pub mod Uses
+pub mod Keeping

@@ -1,8 +1,9 @@
 -- A workload in the words of the model, and what calls on it answer.
-use Prim.Native.Nat.{ℕ, _<_}
+use Prim.Native.Nat.{ℕ, _<_, _≤_}
 use mathlib.Core.Path.{_≡_}
 use mathlib.Core.List.{[], _∷_}
 use lib.IntN.{ℤ}
+use lib.ListN.{length}
 use Rattle.model.specs.Workload as model
 use Rattle.rules.specs.declared.state.State.{State}
 use Rattle.rules.specs.Rules.{root-mark}
@@ -36,6 +37,9 @@ pub record Is-state (W : model.Workload) (t s : ℕ) (x : State) : Type 0 where
   pub code : x .code ≡ W .code t s
   pub operand : x .operand ≡ W .operand t s
   pub arcs : arcsOf x ≡ W .arcs t s
+  -- of its four arc bytes at most all are in use
+  pub few : x .«arc_count» ≤ 4
+  pub four : length (x .arcs) ≡ 4
 
 -- an answer of which P holds where what is asked for is there, and nothing where it is not
 abbrev pub Answers : {X : Type 0} → Option X → Type 0 → (X → Type 0) → Type 0

@@ -5,11 +5,13 @@ ghost use mathlib.Core.List.{[]};
 ghost use mathlib.Core.Path.{_≡_};
 ghost use lib.ListN.{getD};
 ghost use Rattle.model.specs.Workload.{Well-formed};
+ghost use Rattle.rules.specs.Plans.{Planned};
 ghost use Rattle.std.specs.Of.Vec.{vec-items, vec-len};
 ghost use Rattle.std.specs.Orderings.{Decides};
 ghost use Rattle.workload.specs.Types.{all-states};
 ghost use Rattle.workload.specs.View.{Answers, Has-parent, Has-state, Is-state, view};
 use crate::definition::Workload;
+use rules::plan::Plan;
 use rules::state::State;
 use rules::tree::ROOT_MARK;
 
@@ -89,5 +91,12 @@ impl Workload {
             return None;
         }
         Some(states[s as usize])
+    }
+
+    // The plan of type t: its local lock tree and the sets of its states; nothing where there is no such type.
+    pub fn plan(&self, t: u8) -> Option<&Plan>
+        ensures { λ r. ⌜ Answers r (t < view (now (self .entry)) .types) (λ p. Planned (view (now (self .entry))) t (now p)) ⌝ }
+    {
+        self.plans.get(t as usize)
     }
 }

@@ -99,7 +99,7 @@ fn load(heap: Global, file: &[u8]) -> Result<(Workload, NoteSpan), Fault>
     let parts = survey(file)?;
     let types = load_types(heap, parts.types, file.len(), parts.sizes)?;
     let parents = Vec::from_slice(heap, parts.parents)?;
-    let workload = Workload::of_parts(parents, parts.sizes.codes, types);
+    let workload = Workload::of_parts(heap, parents, parts.sizes.codes, types)?;
     let span = NoteSpan {
         place: file.len() - parts.note.len(),
         length: parts.note.len(),

@@ -3,5 +3,6 @@ mod calls;
 pub mod definition;
 pub mod fault;
 pub mod file;
+mod plans;
 mod read;
 mod start;

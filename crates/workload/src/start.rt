@@ -24,7 +24,8 @@ impl Workload {
         let parents = vec![in heap; ROOT_MARK]?;
         let states = vec![in heap; state]?;
         let types = vec![in heap; JobType { states }]?;
-        Ok(Workload::of_parts(parents, 1, types))
+        let workload = Workload::of_parts(heap, parents, 1, types)?;
+        Ok(workload)
     }
 
     // The workload to start from: one item, one code, and one type of one terminal state with operand 0.

@@ -38,8 +38,17 @@ returns-in-Break-parents c =
     let p = err-from-errBy (c .from-residual-in-Break-parents .result) (c .from-residual-in-Break-parents .ensures .1) in
     rw (p .1, p .2) (inr (refl, (_, a)))
 
-pub of-parts-workload-requires : need.of-parts-workload-requires
-of-parts-workload-requires c κs =
+pub returns-in-Break-workload : need.returns-in-Break-workload
+returns-in-Break-workload c =
+    let bs = c .args .file .now in
+    let s = c .in-Continue-parts .parts in
+    let bytes : Bytes bs = λ i. omega (arith, c .typed .file i .fits) in
+    let a = surveyed-accepted bs (s .sizes) (s .parents .now) (s .types .now) (s .note .now) bytes (c .in-Continue-parts .ensures tt .answer) in
+    let p = err-from-errBy (c .from-residual-in-Break-workload .result) (c .from-residual-in-Break-workload .ensures .1) in
+    rw (p .1, p .2) (inr (refl, (_, a)))
+
+pub of-parts-requires : need.of-parts-requires
+of-parts-requires c κs =
     let bs = c .args .file .now in
     let s = c .in-Continue-parts .parts in
     let bytes : Bytes bs = λ i. omega (arith, c .typed .file i .fits) in
@@ -67,10 +76,10 @@ returns c =
     let b : Accepted bs x =
     loaded-accepted bs (s .sizes) (s .parents .now) (s .types .now) note bytes (c .in-Continue-parts .ensures tt .answer) us (l .0) qs (l .1) (c .in-Continue-parents .ensures tt .made .0) in
     let d = note-spans bs x b in
-    let e = c .of-parts-workload .ensures in
-    let w = c .of-parts-workload .result in
+    let e = c .in-Continue-workload .ensures tt in
+    let w = c .in-Continue-workload .workload in
     let same : bs ≡ encoded (vec-items (w .parents)) (w .«code_count») (all-states (vec-items (w .types))) note =
-    subst (λ v. bs ≡ encoded (vec-items v) (w .«code_count») (all-states (vec-items (w .types))) note) (sym (e .parents))
-    (subst (λ (k : ℕ). bs ≡ encoded qs k (all-states (vec-items (w .types))) note) (sym (e .codes))
-    (subst (λ v. bs ≡ encoded qs (s .sizes .codes) (all-states (vec-items v)) note) (sym (e .types)) (b .0))) in
+    subst (λ v. bs ≡ encoded (vec-items v) (w .«code_count») (all-states (vec-items (w .types))) note) (sym (e .0))
+    (subst (λ (k : ℕ). bs ≡ encoded qs k (all-states (vec-items (w .types))) note) (sym (e .1))
+    (subst (λ v. bs ≡ encoded qs (s .sizes .codes) (all-states (vec-items v)) note) (sym (e .2)) (b .0))) in
     (note, same, b .2, (omega (arith, d .0), d .1))

@@ -19,9 +19,9 @@ pub returns : need.returns
 returns c =
     let s = c .in-Continue-states .ensures tt .made .0 ∙ ap (λ (z : ℤ). lone-state z ∷ []) (toZ-ofZ (c .fits .operand)) in
     let a = ap all-states (c .in-Continue-types .ensures tt .made .0) ∙ ap (λ (x : List State). x ∷ []) s in
-    let e = c .of-parts .ensures in
+    let e = c .in-Continue-workload .ensures tt in
     record {
-      parents = ap vec-items (e .parents) ∙ c .in-Continue-parents .ensures tt .made .0;
-      codes = e .codes;
-      types = ap (λ v. all-states (vec-items v)) (e .types) ∙ a;
+      parents = ap vec-items (e .0) ∙ c .in-Continue-parents .ensures tt .made .0;
+      codes = e .1;
+      types = ap (λ v. all-states (vec-items v)) (e .2) ∙ a;
     }

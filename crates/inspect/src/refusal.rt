@@ -1,4 +1,5 @@
 // Why a file is refused, in one sentence.
+use std::error::AnyError;
 use std::fmt;
 use workload::fault::Fault;
 
@@ -31,6 +32,13 @@ pub impl fmt::Display for Refusal as RefusalDisplay {
             None => write!(f, "not read: {text}"),
         }
     }
+}
+
+// A refused file is told and ends the program with status 1.
+pub fn refuse(rt: &LibcRuntime, fault: Fault) -> Result<(), AnyError> {
+    let refusal = Refusal(fault);
+    println!(rt, "{refusal}")?;
+    Err("the file is refused".into())
 }
 
 #[cfg(test)]

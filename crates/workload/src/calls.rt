@@ -10,6 +10,7 @@ ghost use Rattle.std.specs.Of.Vec.{vec-items, vec-len};
 ghost use Rattle.std.specs.Orderings.{Decides};
 ghost use Rattle.workload.specs.Types.{all-states};
 ghost use Rattle.workload.specs.View.{Answers, Has-parent, Has-state, Is-state, view};
+use crate::definition::JobType;
 use crate::definition::Workload;
 use rules::plan::Plan;
 use rules::state::State;
@@ -41,6 +42,20 @@ impl Workload {
         ensures range { λ r. ⌜ (1 ≤ r) × (r ≤ 8) ⌝ }
     {
         self.types.len() as u8
+    }
+
+    // The parent byte of each item, as a file has them.
+    pub fn parent_bytes(&self) -> &[u8]
+        ensures { λ r. ⌜ now r ≡ vec-items (now (self .entry) .parents) ⌝ }
+    {
+        self.parents.as_slice()
+    }
+
+    // The job types, as they are held.
+    pub fn job_types(&self) -> &[JobType]
+        ensures { λ r. ⌜ now r ≡ vec-items (now (self .entry) .types) ⌝ }
+    {
+        self.types.as_slice()
     }
 
     // The states of type t; nothing where there is no such type.

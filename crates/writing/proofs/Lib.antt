@@ -1,0 +1,4 @@
+pub mod Kept
+pub mod Puts
+pub mod Sizes
+pub mod Round

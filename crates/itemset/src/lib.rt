@@ -93,7 +93,7 @@ impl ItemSet {
 
     // The smallest number of the set.
     pub fn lowest(&self) -> Option<u8>
-        ensures { λ r. ⌜ Cases r ((e : ℕ) → holds (now (self .entry)) e ≡ false) (λ d. (holds (now (self .entry)) d ≡ true) × ((e : ℕ) → e < d → holds (now (self .entry)) e ≡ false)) ⌝ }
+        ensures { λ r. ⌜ Cases r ((e : ℕ) → holds (now (self .entry)) e ≡ false) (λ d. (holds (now (self .entry)) d ≡ true) × ((e : ℕ) → e < d → holds (now (self .entry)) e ≡ false) × (d < 64)) ⌝ }
     {
         word::lowest(self.bits)
     }

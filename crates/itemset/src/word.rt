@@ -84,7 +84,7 @@ pub(crate) fn is_within(a: u64, b: u64) -> bool
 
 // The smallest number.
 pub(crate) fn lowest(word: u64) -> Option<u8>
-    ensures { λ r. ⌜ Cases r ((e : ℕ) → has word e ≡ false) (λ d. (has word d ≡ true) × ((e : ℕ) → e < d → has word e ≡ false)) ⌝ }
+    ensures { λ r. ⌜ Cases r ((e : ℕ) → has word e ≡ false) (λ d. (has word d ≡ true) × ((e : ℕ) → e < d → has word e ≡ false) × (d < 64)) ⌝ }
 {
     if word == 0 {
         return None;

@@ -23,3 +23,6 @@ well-formed w = formed-out (view w) (∥∥₁-map (w .lawful) (λ l. l .formed)
 
 pub few-states : (w : Workload) (t : ℕ) → t < view w .types → view w .states t ≤ 32
 few-states w t h = ∥∥₁-elim (w .lawful) le-prop (λ l. l .states t h .1)
+
+pub few-items : (w : Workload) → view w .items ≤ 64
+few-items w = ∥∥₁-elim (w .lawful) le-prop (λ l. l .items .1)

@@ -1,4 +1,6 @@
 // Tells a person what a workload file holds, or why it is refused, or writes it again.
+#![tactic(auto)]
+
 mod copy;
 mod describe;
 mod refusal;

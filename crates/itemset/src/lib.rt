@@ -1,4 +1,6 @@
 // Sets of item numbers. Every contract speaks of membership alone, so that the word behind a set can change.
+#![tactic(auto)]
+
 ghost use Rattle.std.specs.Prelude.{◌≡◌, ℕ, ◌<◌, ◌≤◌, min, true, false, not, ◌&&◌, ◌||◌, Decides, MatchOption, ◌==◌, nat_lt};
 ghost use Rattle.itemset.specs.Members.{holds};
 

@@ -1,4 +1,6 @@
 // Jobs: their records, one step of a job, and the sixteen places of a table.
+#![tactic(auto)]
+
 mod changes;
 mod going;
 mod look;

@@ -1,4 +1,6 @@
 // Tests of jobs and their steps, over a row of tallies.
+#![tactic(auto)]
+
 #[cfg(test)]
 mod entering;
 #[cfg(test)]

@@ -2,6 +2,6 @@
 use Rattle.model.specs.Table as model
 use Rattle.kinds.specs.declared.kind.Kind.{Ghosts}
 
--- K is `T-as-Kind` for a type parameter T: Kind
+-- K is `T.Kind` for a type parameter T: Kind
 abbrev pub view : {Self V : Type 0} → Ghosts Self V → model.Kind V
 view K = record { codes = K.codes; act = K.acted }

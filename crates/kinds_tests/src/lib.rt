@@ -1,4 +1,6 @@
 // Tests of the kinds and the stores on real values. They stand apart so that neither crate is proved twice.
+#![tactic(auto)]
+
 #[cfg(test)]
 mod long_rows;
 #[cfg(test)]

@@ -1,4 +1,6 @@
 // The theorems of tree locking. Each stands on the contract of one small function, so that the check asks for its proof.
+#![tactic(auto)]
+
 ghost use Rattle.locking.specs.Tree.{TreeOrder, TreePositions};
 ghost use Rattle.locking.specs.Serial.{SerialLog, SerialEffect};
 ghost use Rattle.locking.specs.Serializable.{TreeSerial};

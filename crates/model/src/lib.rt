@@ -1,4 +1,6 @@
 // The theorems of the job table. Each stands on the contract of one small function, so that the check asks for its proof.
+#![tactic(auto)]
+
 ghost use Rattle.model.specs.Journal.{TableStands, RunsOneWay};
 ghost use Rattle.model.specs.Examples.{ExamplesStand};
 

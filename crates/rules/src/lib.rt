@@ -1,4 +1,6 @@
 // The rules of a workload over plain rows of bytes and states, the tests of the rules, and the plan of a job type.
+#![tactic(auto)]
+
 mod closure;
 mod local;
 pub mod plan;

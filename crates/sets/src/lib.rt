@@ -1,4 +1,6 @@
 // The sets of a job type and its local lock tree: each call looks up what the workload keeps, and walks no graph.
+#![tactic(auto)]
+
 ghost use Rattle.std.specs.Prelude.{◌<◌};
 ghost use Rattle.model.specs.Workload.{Local, LocalRoot, Unlockable, Unreachable};
 ghost use Rattle.rules.specs.Plans.{Planned};

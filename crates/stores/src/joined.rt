@@ -42,9 +42,9 @@ fn part_of(i: usize, front: usize) -> Part
 
 impl<K: Kind, First: ShowingStore<K>, Second: ShowingStore<K>> ShowingStore<K>
     for JoinedStore<First, Second> {
-    ghost values = { λ s. counted (First-as-ShowingStore.values s.first ++ Second-as-ShowingStore.values s.second) };
+    ghost values = { λ s. counted (First.ShowingStore.values s.first ++ Second.ShowingStore.values s.second) };
 
-    ghost few = { λ s. counted_few (First-as-ShowingStore.values s.first ++ Second-as-ShowingStore.values s.second) };
+    ghost few = { λ s. counted_few (First.ShowingStore.values s.first ++ Second.ShowingStore.values s.second) };
 
     fn len(&self) -> usize {
         (self.first.len() + self.second.len()).min(CAPACITY)
@@ -61,11 +61,11 @@ impl<K: Kind, First: ShowingStore<K>, Second: ShowingStore<K>> ShowingStore<K>
 
 impl<K: Kind, First: WorkingStore<K>, Second: WorkingStore<K>> WorkingStore<K>
     for JoinedStore<First, Second> {
-    ghost stays = { λ s t. First-as-WorkingStore.stays s.first t.first × Second-as-WorkingStore.stays s.second t.second };
+    ghost stays = { λ s t. First.WorkingStore.stays s.first t.first × Second.WorkingStore.stays s.second t.second };
 
-    ghost still = { λ s. (First-as-WorkingStore.still s.first, Second-as-WorkingStore.still s.second) };
+    ghost still = { λ s. (First.WorkingStore.still s.first, Second.WorkingStore.still s.second) };
 
-    ghost chain = { λ s t u p q. (First-as-WorkingStore.chain s.first t.first u.first p.0 q.0, Second-as-WorkingStore.chain s.second t.second u.second p.1 q.1) };
+    ghost chain = { λ s t u p q. (First.WorkingStore.chain s.first t.first u.first p.0 q.0, Second.WorkingStore.chain s.second t.second u.second p.1 q.1) };
 
     fn work(&mut self, i: usize, code: u8, operand: i32, register: i32) -> Option<i32> {
         match part_of(i, self.first.len()) {

@@ -1,4 +1,6 @@
 // Tests of the table, over a row of tallies.
+#![tactic(auto)]
+
 #[cfg(test)]
 mod listing;
 #[cfg(test)]

@@ -1,3 +1,5 @@
 // The text of the program yard: the calls that its input asks for, and the words that it prints.
+#![tactic(auto)]
+
 pub mod input;
 pub mod word;

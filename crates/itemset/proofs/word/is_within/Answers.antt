@@ -13,6 +13,6 @@ pub returns : goal.returns
 returns c =
     let a = c.args.a in
     let b = c.args.b in (
-      λ e k h. taken (has a k) (has b k) (sym (c.first-only.ensures k) ∙ c.is-none.ensures.0 e k) h,
-      λ f. c.is-none.ensures.1 (λ k. c.first-only.ensures k ∙ left (has a k) (has b k) (f k)),
+      λ e k h. taken (has a k) (has b k) (sym (c.first_only.ensures k) ∙ c.is_none.ensures.0 e k) h,
+      λ f. c.is_none.ensures.1 (λ k. c.first_only.ensures k ∙ left (has a k) (has b k) (f k)),
     )

@@ -12,4 +12,4 @@ returns-then-not-contains c = λ W u. (
 pub returns : goal.returns
 returns c = λ W u.
     idle_goes W c.args.job c.args.plan.now u c.args.d c.difference-needed.result c.difference-idle.result c.difference-needed.ensures c.difference-idle.ensures
-    (sym c.contains.ensures ∙ c.if-not-contains.false) c.intersection.result c.union-passed.result c.intersection.ensures c.union-passed.ensures c.is-subset.result c.is-subset.ensures
+    (sym c.contains.ensures ∙ c.if-not-contains.false) c.intersection.result c.union-passed.result c.intersection.ensures c.union-passed.ensures c.is_subset.result c.is_subset.ensures

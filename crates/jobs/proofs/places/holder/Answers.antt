@@ -5,8 +5,8 @@ use Rattle.jobs.specs.declared.record.Place.TheVariants.{Empty}
 use Rattle.jobs.proofs.Holders.{found_holder, no_holder}
 use Rattle.jobs.proofs.places.holder.Goals as goal
 
-pub returns-then-place-holds-item : goal.returns-then-place-holds-item
-returns-then-place-holds-item c =
+pub returns-then-place_holds_item : goal.returns-then-place_holds_item
+returns-then-place_holds_item c =
     let h : place_holds (get_or c.args.places.now c.loop-q.q Empty) c.args.d ≡ true = search (rules, get_or_read) in
     found_holder c.args.places.now c.loop-q.q c.args.d h
 

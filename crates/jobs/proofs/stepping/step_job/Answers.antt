@@ -11,11 +11,11 @@ use Rattle.jobs.proofs.Sounds.{state_ok, type_ok}
 use Rattle.jobs.proofs.Stepped.{lowest_of, next_state, under, with_all_of}
 use Rattle.jobs.proofs.stepping.step_job.Goals as goal
 
-pub plan-of-requires : goal.plan-of-requires
-plan-of-requires g c = type_ok (view c.args.workload.now) (job_view c.args.job) c.requires.sound
+pub plan_of-requires : goal.plan_of-requires
+plan_of-requires g c = type_ok (view c.args.workload.now) (job_view c.args.job) c.requires.sound
 
-pub next-of-requires : goal.next-of-requires
-next-of-requires g c =
+pub next_of-requires : goal.next_of-requires
+next_of-requires g c =
     let W = view c.args.workload.now in
     let J = job_view c.args.job in
     (type_ok W J c.requires.sound, state_ok W J c.requires.sound)
@@ -26,32 +26,32 @@ returns-in-Some g c =
     let w = c.args.workload.now in
     let R = c.args.job in
     let vs = g.S.ShowingStore.values c.args.store.now in
-    let l = c.in-Some.ensures (view w) (under w R c.requires.sound c.plan-of.result.now c.plan-of.ensures) in
+    let l = c.in-Some.ensures (view w) (under w R c.requires.sound c.plan_of.result.now c.plan_of.ensures) in
     record {
       steps = subst (λ (J : Job). Steps (view w) (kind_view g.K.Kind) (Holding c.args.places.now) vs (job_view R) (released c.in-Some.d) vs J) (sym c.released.ensures.job)
           (releases c.in-Some.d (holds c.released.result.held) l c.released.ensures.held);
       outside = g.S.WorkingStore.still c.args.store.now;
     }
 
-pub unlockable-of-unlockable-requires : goal.unlockable-of-unlockable-requires
-unlockable-of-unlockable-requires g c =
+pub unlockable_of-unlockable-requires : goal.unlockable_of-unlockable-requires
+unlockable_of-unlockable-requires g c =
     let w = c.args.workload.now in
-    (type_ok (view w) (job_view c.args.job) c.requires.sound, next_state w c.args.job c.requires.sound _ c.in-Some-next-of.s c.in-Some-next-of.ensures)
+    (type_ok (view w) (job_view c.args.job) c.requires.sound, next_state w c.args.job c.requires.sound _ c.in-Some-next_of.s c.in-Some-next_of.ensures)
 
-pub returns-in-Some-next-of : goal.returns-in-Some-next-of
-returns-in-Some-next-of g c =
+pub returns-in-Some-next_of : goal.returns-in-Some-next_of
+returns-in-Some-next_of g c =
     let w = c.args.workload.now in
     let R = c.args.job in
-    let s = c.in-Some-next-of.s in
+    let s = c.in-Some-next_of.s in
     let vs = g.S.ShowingStore.values c.args.store.now in
-    let stays = c.in-default.ensures (view w) (under w R c.requires.sound c.plan-of.result.now c.plan-of.ensures) in
+    let stays = c.in_default.ensures (view w) (under w R c.requires.sound c.plan_of.result.now c.plan_of.ensures) in
     let fr : SFits w32 R.register = search rules in
     let t : Takes (view w) R.job_type R.state R.register s =
-    subst (λ (p : ℤ). Takes (view w) R.job_type R.state p s) (to_z-of_z w32 _ fr) c.in-Some-next-of.ensures in
+    subst (λ (p : ℤ). Takes (view w) R.job_type R.state p s) (to_z-of_z w32 _ fr) c.in-Some-next_of.ensures in
     record {
       steps = subst (λ (J : Job). Steps (view w) (kind_view g.K.Kind) (Holding c.args.places.now) vs (job_view R) (gone s) vs J) (sym c.arrived.ensures.job)
           (goes s (holds c.arrived.result.done) stays c.if-job.true t
-          (with_all_of (holds R.done) (holds c.unlockable-of-unlockable.result) (holds c.arrived.result.done) (Unlockable (view w) R.job_type s) c.unlockable-of-unlockable.ensures c.arrived.ensures.done));
+          (with_all_of (holds R.done) (holds c.unlockable_of-unlockable.result) (holds c.arrived.result.done) (Unlockable (view w) R.job_type s) c.unlockable_of-unlockable.ensures c.arrived.ensures.done));
       outside = g.S.WorkingStore.still c.args.store.now;
     }
 
@@ -61,7 +61,7 @@ returns-in-Some-lowest g c =
     let R = c.args.job in
     let d = c.in-Some-lowest.d in
     let vs = g.S.ShowingStore.values c.args.store.now in
-    let stays = c.in-default.ensures (view w) (under w R c.requires.sound c.plan-of.result.now c.plan-of.ensures) in
+    let stays = c.in_default.ensures (view w) (under w R c.requires.sound c.plan_of.result.now c.plan_of.ensures) in
     let e = c.in-Some-lowest.ensures in
     record {
       steps = subst (λ (J : Job). Steps (view w) (kind_view g.K.Kind) (Holding c.args.places.now) vs (job_view R) (released d) vs J) (sym c.released-in-Some-lowest.ensures.job)
@@ -74,15 +74,15 @@ returns-in-None-lowest g c =
     let w = c.args.workload.now in
     let R = c.args.job in
     let vs = g.S.ShowingStore.values c.args.store.now in
-    let stays = c.in-default.ensures (view w) (under w R c.requires.sound c.plan-of.result.now c.plan-of.ensures) in
+    let stays = c.in_default.ensures (view w) (under w R c.requires.sound c.plan_of.result.now c.plan_of.ensures) in
     record {
       steps = subst (λ (J : Job). Steps (view w) (kind_view g.K.Kind) (Holding c.args.places.now) vs (job_view R) Rattle.model.specs.Table.finished vs J) (sym c.at_end.ensures)
           (finishes stays c.if-job.true c.in-None.ensures c.in-None-lowest.ensures);
       outside = g.S.WorkingStore.still c.args.store.now;
     }
 
-pub state-of-state-requires : goal.state-of-state-requires
-state-of-state-requires g c =
+pub state_of-state-requires : goal.state_of-state-requires
+state_of-state-requires g c =
     let W = view c.args.workload.now in
     let J = job_view c.args.job in
     (type_ok W J c.requires.sound, state_ok W J c.requires.sound)
@@ -91,25 +91,25 @@ pub returns-then-contains : goal.returns-then-contains
 returns-then-contains g c =
     let w = c.args.workload.now in
     let R = c.args.job in
-    let x = c.state-of-state.result in
-    let e = c.state-of-state.ensures in
+    let x = c.state_of-state.result in
+    let e = c.state_of-state.ensures in
     let vs = g.S.ShowingStore.values c.args.store.now in
-    let new = g.S.ShowingStore.values c.work-of-state-register.new.store in
-    let q = c.work-of-state-register.result in
-    let stays = c.in-default.ensures (view w) (under w R c.requires.sound c.plan-of.result.now c.plan-of.ensures) in
+    let new = g.S.ShowingStore.values c.work_of_state-register.new.store in
+    let q = c.work_of_state-register.result in
+    let stays = c.in_default.ensures (view w) (under w R c.requires.sound c.plan_of.result.now c.plan_of.ensures) in
     let fo : SFits w32 x.operand = search rules in
     let fr : SFits w32 R.register = search rules in
     let fq : SFits w32 q = search rules in
     let done : WorksIfThere (view w) (kind_view g.K.Kind) R.job_type R.state vs R.register new q =
     subst (λ (p : ℤ). WorksIfThere (view w) (kind_view g.K.Kind) R.job_type R.state vs p new q) (to_z-of_z w32 _ fr)
-    (c.work-of-state-register.ensures.works (view w) R.job_type R.state (sym e.item) (sym e.code) (sym (to_z-of_z w32 _ fo ∙ e.operand))) in
+    (c.work_of_state-register.ensures.works (view w) R.job_type R.state (sym e.item) (sym e.code) (sym (to_z-of_z w32 _ fo ∙ e.operand))) in
     let here : holds R.held ((view w).item R.job_type R.state) ≡ true = subst (λ (y : ℕ). holds R.held y ≡ true) e.item (sym c.if-contains.ensures) in
-    let same : job_view c.after-work.result ≡ with_register (job_view R) q = c.after-work.ensures ∙ ap (λ (p : ℤ). with_register (job_view R) p) (to_z-of_z w32 _ fq) in
+    let same : job_view c.after_work.result ≡ with_register (job_view R) q = c.after_work.ensures ∙ ap (λ (p : ℤ). with_register (job_view R) p) (to_z-of_z w32 _ fq) in
     record {
-      steps = subst (λ (i : ℕ). Steps (view w) (kind_view g.K.Kind) (Holding c.args.places.now) vs (job_view R) (worked i) new (job_view c.after-work.result)) (sym e.item)
+      steps = subst (λ (i : ℕ). Steps (view w) (kind_view g.K.Kind) (Holding c.args.places.now) vs (job_view R) (worked i) new (job_view c.after_work.result)) (sym e.item)
           (subst (λ (J : Job). Steps (view w) (kind_view g.K.Kind) (Holding c.args.places.now) vs (job_view R) (worked ((view w).item R.job_type R.state)) new J) (sym same)
           (works new q stays c.if-job.false here done));
-      outside = c.work-of-state-register.ensures.outside;
+      outside = c.work_of_state-register.ensures.outside;
     }
 
 pub wanted-d-requires : goal.wanted-d-requires
@@ -119,22 +119,22 @@ wanted-d-requires g c =
     record {
       sound = c.requires.sound;
       unworked = c.if-job.false;
-      free = subst (λ (y : ℕ). holds R.held y ≡ false) c.state-of-state.ensures.item (sym c.if-contains.ensures);
+      free = subst (λ (y : ℕ). holds R.held y ≡ false) c.state_of-state.ensures.item (sym c.if-contains.ensures);
     }
 
 pub returns-in-Some-holder : goal.returns-in-Some-holder
 returns-in-Some-holder g c =
     let w = c.args.workload.now in
     let R = c.args.job in
-    let stays = c.in-default.ensures (view w) (under w R c.requires.sound c.plan-of.result.now c.plan-of.ensures) in
-    let free = subst (λ (y : ℕ). holds R.held y ≡ false) c.state-of-state.ensures.item (sym c.if-contains.ensures) in
+    let stays = c.in_default.ensures (view w) (under w R c.requires.sound c.plan_of.result.now c.plan_of.ensures) in
+    let free = subst (λ (y : ℕ). holds R.held y ≡ false) c.state_of-state.ensures.item (sym c.if-contains.ensures) in
     record {
       steps = waits c.wanted-d.result c.in-Some-holder.q stays c.if-job.false free c.wanted-d.ensures.wants c.in-Some-holder.ensures;
       outside = g.S.WorkingStore.still c.args.store.now;
     }
 
-pub locked-too-requires : goal.locked-too-requires
-locked-too-requires g c = omega (arith, c.wanted-d.ensures.small, few_items c.args.workload.now)
+pub locked_too-requires : goal.locked_too-requires
+locked_too-requires g c = omega (arith, c.wanted-d.ensures.small, few_items c.args.workload.now)
 
 pub returns-in-None-holder : goal.returns-in-None-holder
 returns-in-None-holder g c =
@@ -142,11 +142,11 @@ returns-in-None-holder g c =
     let R = c.args.job in
     let d = c.wanted-d.result in
     let vs = g.S.ShowingStore.values c.args.store.now in
-    let stays = c.in-default.ensures (view w) (under w R c.requires.sound c.plan-of.result.now c.plan-of.ensures) in
-    let free = subst (λ (y : ℕ). holds R.held y ≡ false) c.state-of-state.ensures.item (sym c.if-contains.ensures) in
-    let e = c.locked-too.ensures in
+    let stays = c.in_default.ensures (view w) (under w R c.requires.sound c.plan_of.result.now c.plan_of.ensures) in
+    let free = subst (λ (y : ℕ). holds R.held y ≡ false) c.state_of-state.ensures.item (sym c.if-contains.ensures) in
+    let e = c.locked_too.ensures in
     record {
       steps = subst (λ (J : Job). Steps (view w) (kind_view g.K.Kind) (Holding c.args.places.now) vs (job_view R) (locked d) vs J) (sym e.job)
-          (locks d (holds c.locked-too.result.held) (holds c.locked-too.result.locked) stays c.if-job.false free c.wanted-d.ensures.wants c.in-None-holder.ensures e.held e.locked);
+          (locks d (holds c.locked_too.result.held) (holds c.locked_too.result.locked) stays c.if-job.false free c.wanted-d.ensures.wants c.in-None-holder.ensures e.held e.locked);
       outside = g.S.WorkingStore.still c.args.store.now;
     }

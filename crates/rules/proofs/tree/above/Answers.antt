@@ -10,8 +10,8 @@ pub loop-i-preserved : goal.loop-i-preserved
 loop-i-preserved c =
     let i = c.loop-i.i in
     let h : i < length c.args.parents.now = omega arith in
-    filled_more (Parent c.args.parents.now) 64 c.loop-i.rows i c.parent-set.result (omega arith) c.loop-i.invariant
-    (λ m. let d = c.parent-set.ensures m in
+    filled_more (Parent c.args.parents.now) 64 c.loop-i.rows i c.parent_set.result (omega arith) c.loop-i.invariant
+    (λ m. let d = c.parent_set.ensures m in
     (λ e. let q = d.0 e in (h, q.1, omega (arith, q.0, q.1)), λ p. d.1 (omega (arith, p.1, p.2), p.1)))
 
 pub returns : goal.returns

@@ -8,4 +8,4 @@ loop-s-init c = filled_none (LeftBehind c.args.arcs.now c.args.unreachable.now c
 
 pub loop-s-preserved : goal.loop-s-preserved
 loop-s-preserved c =
-    filled_more (LeftBehind c.args.arcs.now c.args.unreachable.now c.args.behind.now) 32 c.loop-s.left c.loop-s.s c.left-behind.result (omega arith) c.loop-s.invariant c.left-behind.ensures
+    filled_more (LeftBehind c.args.arcs.now c.args.unreachable.now c.args.behind.now) 32 c.loop-s.left c.loop-s.s c.left_behind.result (omega arith) c.loop-s.invariant c.left_behind.ensures

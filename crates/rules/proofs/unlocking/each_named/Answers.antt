@@ -9,4 +9,4 @@ loop-s-init c = filled_none (λ s. NamesIn c.args.states.now (get_or c.args.rows
 
 pub loop-s-preserved : goal.loop-s-preserved
 loop-s-preserved c =
-    filled_more (λ s. NamesIn c.args.states.now (get_or c.args.rows.now s nothing)) 32 c.loop-s.named c.loop-s.s c.named-in.result (omega arith) c.loop-s.invariant c.named-in.ensures
+    filled_more (λ s. NamesIn c.args.states.now (get_or c.args.rows.now s nothing)) 32 c.loop-s.named c.loop-s.s c.named_in.result (omega arith) c.loop-s.invariant c.named_in.ensures

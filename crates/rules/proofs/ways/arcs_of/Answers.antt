@@ -8,7 +8,7 @@ loop-s-init c = filled_none (Arc c.args.states.now) 32 c.empty-rows.result c.emp
 
 pub loop-s-preserved : goal.loop-s-preserved
 loop-s-preserved c =
-    filled_more (Arc c.args.states.now) 32 c.loop-s.rows c.loop-s.s c.next-states.result (omega arith) c.loop-s.invariant c.next-states.ensures
+    filled_more (Arc c.args.states.now) 32 c.loop-s.rows c.loop-s.s c.next_states.result (omega arith) c.loop-s.invariant c.next_states.ensures
 
 pub returns : goal.returns
 returns c = filled_all (Arc c.args.states.now) 32 c.loop-s.rows c.loop-s.s (λ s m l a. no_arc c.args.states.now s m (omega arith) a) c.loop-s.invariant

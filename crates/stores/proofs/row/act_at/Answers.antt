@@ -35,5 +35,5 @@ returns g c =
       outside = drop-set-lt 4096 row a.i _ low;
     }
 
-pub offset-bounds-row-i-2 : goal.offset-bounds-row-i-2
-offset-bounds-row-i-2 g c = let here : c.args.i < length c.args.row.now = omega arith in search rules
+pub offset_bounds-row-i-2 : goal.offset_bounds-row-i-2
+offset_bounds-row-i-2 g c = let here : c.args.i < length c.args.row.now = omega arith in search rules

@@ -2,7 +2,7 @@ use Rattle.std.proofs.Common.{◌≡◌, length, unwrap_or, ap, ◌∙◌, w32, 
 use Rattle.std.proofs.lemmas.Int.{to_z-of_z}
 use Rattle.kinds.specs.View.{view}
 use Rattle.stores.proofs.Acts.{after_length}
-use Rattle.stores.proofs.States.{WorksAt}
+use Rattle.stores.proofs.States.{works_at}
 use Rattle.stores.proofs.state_work.work_of_state.Goals as goal
 
 pub returns : goal.returns
@@ -10,12 +10,12 @@ returns g c =
     let a = c.args in
     let operand = c.ranges.operand in
     let register = c.ranges.register in
-    let fits : SFits w32 c.unwrap-or.result = search rules in
+    let fits : SFits w32 c.unwrap_or.result = search rules in
     let answer = simp to_z-of_z at c.work.ensures.answer in
     let after = simp to_z-of_z at c.work.ensures.after in
-    let kept = simp to_z-of_z at c.unwrap-or.ensures in
+    let kept = simp to_z-of_z at c.unwrap_or.ensures in
     record {
-      works = WorksAt (view g.K.Kind) a.item a.code a.operand a.register _ _ _ after (to_z-of_z w32 _ fits ∙ kept ∙ ap (λ o. unwrap_or o a.register) answer);
+      works = works_at (view g.K.Kind) a.item a.code a.operand a.register _ _ _ after (to_z-of_z w32 _ fits ∙ kept ∙ ap (λ o. unwrap_or o a.register) answer);
       length = ap length after ∙ after_length g.K.Kind.acted _ _ _ _ a.item;
       outside = c.work.ensures.outside;
     }

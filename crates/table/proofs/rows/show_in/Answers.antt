@@ -13,7 +13,7 @@ loop-i-preserved g c =
     let fits : SFits w64 c.in-Some.number = search rules in (
       search rules,
       search rules,
-      shown_more g.K.Kind.number vs c.loop-i.i c.in-Some.number (vec_items c.loop-i.shown) _ i.2 (simp to_z-of_z at c.push-reserved.ensures.items) (search rules),
+      shown_more g.K.Kind.number vs c.loop-i.i c.in-Some.number (vec_items c.loop-i.shown) _ i.2 (simp to_z-of_z at c.push_reserved.ensures.items) (search rules),
     )
 
 pub returns : goal.returns

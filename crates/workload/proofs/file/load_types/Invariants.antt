@@ -6,4 +6,4 @@ use Rattle.workload.proofs.file.load_types.Given as goal
 abbrev pub invariant-loop-t : goal.invariant-loop-t
 invariant-loop-t l =
     (length l.rest ≤ length l.initial.rest)
-    × Several (TypePart l.sizes.items l.sizes.codes l.end) l.-t l.initial.rest (Ok (all_states (vec_items l.types), l.rest))
+    × Several (TypePart l.sizes.items l.sizes.codes l.end) l._t l.initial.rest (Ok (all_states (vec_items l.types), l.rest))

@@ -14,7 +14,7 @@ unreachable-requires c =
     let i : t < length all = omega arith in
     let j : t < length (all_states all) = omega (arith, length_all all) in
     let L = c.requires.1 in
-    let e : c.as-slice.result.now ≡ get_or (all_states all) t [] = c.as-slice.ensures.value ∙ sym (states_read all t c.index-types-t.result i) in
+    let e : c.as_slice.result.now ≡ get_or (all_states all) t [] = c.as_slice.ensures.value ∙ sym (states_read all t c.index-types-t.result i) in
     c.in-None.ensures L.items.1 (omega (arith, ap length e, (L.states t j).1)) c.requires.0 t (all_states all)
     (subst (HasType c.args.parents.now c.requires.0 (all_states all) t) (sym e) (has_type c.args.parents.now c.requires.0 (all_states all) L t j))
 
@@ -25,7 +25,7 @@ loop-t-preserved c =
     let i : t < length all = omega arith in
     let n = c.loop-t.invariant.0 in
     let ok : is_ok c.push.result ≡ true = search rules in
-    let e : c.as-slice.result.now ≡ get_or (all_states all) t [] = c.as-slice.ensures.value ∙ sym (states_read all t c.index-types-t.result i) in (
+    let e : c.as_slice.result.now ≡ get_or (all_states all) t [] = c.as_slice.ensures.value ∙ sym (states_read all t c.index-types-t.result i) in (
       c.push.ensures.len ∙ ap (λ (b : Bool). cond b (vec_len c.loop-t.plans + 1) (vec_len c.loop-t.plans)) ok ∙ ap (λ (x : ℕ). x + 1) n,
       one_more (λ k p. PlanFor c.args.parents.now (get_or (all_states all) k []) p) (vec_items c.loop-t.plans) (vec_items c.push.new.self) t c.in-Some.plan
           (λ k d h. c.push.ensures.by_index.0 k d (omega arith))

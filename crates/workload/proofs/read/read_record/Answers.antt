@@ -12,7 +12,7 @@ returns-in-Some c =
     let bs = c.args.bytes.now in
     let l = c.args.limits in
     let k = c.in-Some.k in
-    let e = state_same bs c.type-inv.bytes c.from-be-bytes.result c.from-be-bytes.ensures in
+    let e = state_same bs c.type_inv.bytes c.from_be_bytes.result c.from_be_bytes.ensures in
     let h = c.in-Some.ensures in
     record {
       rest = tt;
@@ -25,9 +25,9 @@ pub returns : goal.returns
 returns c =
     let bs = c.args.bytes.now in
     let l = c.args.limits in
-    let e = state_same bs c.type-inv.bytes c.from-be-bytes.result c.from-be-bytes.ensures in
+    let e = state_same bs c.type_inv.bytes c.from_be_bytes.result c.from_be_bytes.ensures in
     record {
       rest = rw (take_rest bs 11) (simp length-drop (omega arith));
-      answer = sound (omega (arith, ltb-false)) (subst (λ (s : State). (k : ℕ) → WrongByte l.items l.codes l.states s k → ⊥) e c.in-default-wrong-byte.ensures)
+      answer = sound (omega (arith, ltb-false)) (subst (λ (s : State). (k : ℕ) → WrongByte l.items l.codes l.states s k → ⊥) e c.in_default-wrong_byte.ensures)
           (ap (λ (s : State). Ok (s, take (length bs - 11) (drop 11 bs))) e ∙ ap (λ (r : List ℕ). Ok (state_of bs, r)) (take_rest bs 11));
     }

@@ -9,4 +9,4 @@ put-requires c = omega (arith, c.requires.room, c.requires.packed.four)
 pub returns : goal.returns
 returns c =
     subst (λ (bytes : List ℕ). Puts c.args.buffer.now c.args.at bytes c.put.new.buffer c.put.result)
-    (record_list c.args.state c.to-be-bytes.result c.requires.packed c.to-be-bytes.ensures) c.put.ensures
+    (record_list c.args.state c.to_be_bytes.result c.requires.packed c.to_be_bytes.ensures) c.put.ensures

@@ -9,8 +9,8 @@ use Rattle.writing.proofs.put.put_type.Goals as goal
 pub loop-s-init : goal.loop-s-init
 loop-s-init c = puts_none c.put-place.new.buffer c.put-place.result
 
-pub put-state-place-requires : goal.put-state-place-requires
-put-state-place-requires c =
+pub put_state-place-requires : goal.put_state-place-requires
+put_state-place-requires c =
     let states = c.args.states.now in
     let mid = c.put-place.new.buffer in
     let room : c.put-place.result + length (flat_map record_bytes states) ≤ length mid = omega (arith, c.requires.room, c.put-place.ensures.place) in
@@ -25,7 +25,7 @@ loop-s-preserved c =
     let mid = c.put-place.new.buffer in
     let room : c.put-place.result + length (flat_map record_bytes states) ≤ length mid = omega (arith, c.requires.room, c.put-place.ensures.place) in
     puts_next record_bytes states c.loop-s.s nowhere mid c.put-place.result c.loop-s.buffer c.loop-s.place c.loop-s-test.true room c.loop-s.invariant
-    c.put-state-place.new.buffer c.put-state-place.result c.put-state-place.ensures
+    c.put_state-place.new.buffer c.put_state-place.result c.put_state-place.ensures
 
 pub returns : goal.returns
 returns c =

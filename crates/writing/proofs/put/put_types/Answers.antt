@@ -11,21 +11,21 @@ use Rattle.writing.proofs.put.put_types.Goals as goal
 pub loop-t-init : goal.loop-t-init
 loop-t-init c = puts_none c.args.buffer.now c.args.at
 
-pub put-type-place-requires : goal.put-type-place-requires
-put-type-place-requires c =
+pub put_type-place-requires : goal.put_type-place-requires
+put_type-place-requires c =
     let all = c.args.types.now in
-    let a = at_hand all c.loop-t.t c.index-types-t.result c.as-slice.result.now c.loop-t-test.true c.as-slice.ensures.value c.requires.storable in
+    let a = at_hand all c.loop-t.t c.index-types-t.result c.as_slice.result.now c.loop-t-test.true c.as_slice.ensures.value c.requires.storable in
     let r = room_next type_bytes (all_states all) c.loop-t.t [] c.args.buffer.now c.args.at c.loop-t.buffer c.loop-t.place a.within c.requires.room c.loop-t.invariant in
     record { few = a.few; packed = a.packed; room = omega (arith, r, ap (λ (xs : List State). length (type_bytes xs)) a.is) }
 
 pub loop-t-preserved : goal.loop-t-preserved
 loop-t-preserved c =
     let all = c.args.types.now in
-    let a = at_hand all c.loop-t.t c.index-types-t.result c.as-slice.result.now c.loop-t-test.true c.as-slice.ensures.value c.requires.storable in
-    let new = c.put-type-place.new.buffer in
-    let end = c.put-type-place.result in
+    let a = at_hand all c.loop-t.t c.index-types-t.result c.as_slice.result.now c.loop-t-test.true c.as_slice.ensures.value c.requires.storable in
+    let new = c.put_type-place.new.buffer in
+    let end = c.put_type-place.result in
     puts_next type_bytes (all_states all) c.loop-t.t [] c.args.buffer.now c.args.at c.loop-t.buffer c.loop-t.place a.within c.requires.room c.loop-t.invariant new end
-    (subst (λ (xs : List State). Puts c.loop-t.buffer c.loop-t.place (type_bytes xs) new end) (sym a.is) c.put-type-place.ensures)
+    (subst (λ (xs : List State). Puts c.loop-t.buffer c.loop-t.place (type_bytes xs) new end) (sym a.is) c.put_type-place.ensures)
 
 pub returns : goal.returns
 returns c =

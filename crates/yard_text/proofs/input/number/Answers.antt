@@ -3,8 +3,8 @@ use Rattle.std.specs.Str.Parse.{AllDigits, digits_value}
 use Rattle.yard_text.proofs.Bytes.{digits_more, digits_at, value_next, too_large, no_digit}
 use Rattle.yard_text.proofs.input.number.Goals as goal
 
-pub returns-in-default : goal.returns-in-default
-returns-in-default c = λ n w le. no_digit _ (digits_at c.args.word.now c.loop-i.i 0 c.loop-i-test.true w.numeral.1) c.in-default.ensures
+pub returns-in_default : goal.returns-in_default
+returns-in_default c = λ n w le. no_digit _ (digits_at c.args.word.now c.loop-i.i 0 c.loop-i-test.true w.numeral.1) c.in_default.ensures
 
 pub returns-then-value-from : goal.returns-then-value-from
 returns-then-value-from c = λ n w le.

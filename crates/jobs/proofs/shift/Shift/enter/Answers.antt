@@ -13,7 +13,7 @@ put-requires c =
     let s = c.args.self.now in
     let W = view s.workload in
     let R = c.begun.result in
-    let made = sound_new W (well_formed s.workload) c.args.job-type _ (omega (arith, c.type-count.ensures.value, c.if-job-type-type-count.false)) in
+    let made = sound_new W (well_formed s.workload) c.args.job_type _ (omega (arith, c.type_count.ensures.value, c.if-job_type-type_count.false)) in
     record {
       within = omega arith;
       sound = sound_taken W (job_view R) (Taken R) refl (subst (λ (J : Job). Sound W J) (sym c.begun.ensures) made);
@@ -23,6 +23,6 @@ pub returns : goal.returns
 returns c =
     record {
       workload = c.put.ensures.workload;
-      entered = enters c.begun.result (omega arith) (omega (arith, c.type-count.ensures.value, c.if-job-type-type-count.false)) (sym c.in-default.ensures)
-          (c.begun.ensures ∙ ap (λ (a : ℤ). new_job c.args.job-type a) (to_z-of_z c.ranges.argument)) c.put.ensures.places refl;
+      entered = enters c.begun.result (omega arith) (omega (arith, c.type_count.ensures.value, c.if-job_type-type_count.false)) (sym c.in_default.ensures)
+          (c.begun.ensures ∙ ap (λ (a : ℤ). new_job c.args.job_type a) (to_z-of_z c.ranges.argument)) c.put.ensures.places refl;
     }

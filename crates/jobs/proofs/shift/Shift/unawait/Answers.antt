@@ -17,12 +17,12 @@ put-requires c =
     let kept = sound_left W (well_formed s.workload) (job_view R) (s.sound c.args.place (job_view R) (taken_view s.places c.args.place R e)) in
     record {
       within = taken_within s.places c.args.place R s.sixteen e;
-      sound = sound_taken W (job_view c.left-alone.result) (Taken c.left-alone.result) refl (subst (λ (J : Job). Sound W J) (sym c.left-alone.ensures) kept);
+      sound = sound_taken W (job_view c.left_alone.result) (Taken c.left_alone.result) refl (subst (λ (J : Job). Sound W J) (sym c.left_alone.ensures) kept);
     }
 
 pub returns-in-Taken : goal.returns-in-Taken
 returns-in-Taken c =
     record {
       workload = c.put.ensures.workload;
-      unawaited = lets_go c.in-Taken.job c.left-alone.result (sym c.in-Taken.ensures) c.left-alone.ensures c.put.ensures.places;
+      unawaited = lets_go c.in-Taken.job c.left_alone.result (sym c.in-Taken.ensures) c.left_alone.ensures c.put.ensures.places;
     }

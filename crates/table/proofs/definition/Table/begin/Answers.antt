@@ -15,7 +15,7 @@ returns-then-not-fitting g c =
     let vs = g.S.ShowingStore.values c.args.self.now.store in
     let K = kind_view g.K.Kind in
     record {
-      moves = begin_unfit c.args.place c.args.job-type c.args.argument (λ f. both_ways c.fitting.result c.if-not-fitting.true (c.fitting.ensures.1 f));
+      moves = begin_unfit c.args.place c.args.job_type c.args.argument (λ f. both_ways c.fitting.result c.if-not-fitting.true (c.fitting.ensures.1 f));
       ticket = tt;
       workload = refl;
       outside = g.S.WorkingStore.still c.args.self.now.store;
@@ -28,20 +28,20 @@ returns-then-place-ge16 g c =
     let K = kind_view g.K.Kind in
     let f = c.fitting.ensures.0 c.if-not-fitting.false in
     record {
-      moves = refuses_place (graph s) K vs s.places s.sixteen c.args.place c.args.job-type c.args.argument f c.if-place-ge16.true;
+      moves = refuses_place (graph s) K vs s.places s.sixteen c.args.place c.args.job_type c.args.argument f c.if-place-ge16.true;
       ticket = tt;
       workload = refl;
       outside = g.S.WorkingStore.still c.args.self.now.store;
     }
 
-pub returns-then-job-type-type-count : goal.returns-then-job-type-type-count
-returns-then-job-type-type-count g c =
+pub returns-then-job_type-type_count : goal.returns-then-job_type-type_count
+returns-then-job_type-type_count g c =
     let s = c.args.self.now.shift in
     let vs = g.S.ShowingStore.values c.args.self.now.store in
     let K = kind_view g.K.Kind in
     let f = c.fitting.ensures.0 c.if-not-fitting.false in
     record {
-      moves = refuses_type (graph s) K vs s.places s.sixteen c.args.place c.args.job-type c.args.argument f c.if-place-ge16.false (subst (λ n. n ≤ c.args.job-type) (c.type-count.ensures.value ∙ ap (λ w. (workload.view w).types) c.workload.ensures) c.if-job-type-type-count.true);
+      moves = refuses_type (graph s) K vs s.places s.sixteen c.args.place c.args.job_type c.args.argument f c.if-place-ge16.false (subst (λ n. n ≤ c.args.job_type) (c.type_count.ensures.value ∙ ap (λ w. (workload.view w).types) c.workload.ensures) c.if-job_type-type_count.true);
       ticket = tt;
       workload = refl;
       outside = g.S.WorkingStore.still c.args.self.now.store;
@@ -55,7 +55,7 @@ returns-then-not-enter g c =
     let fits : SFits w32 c.args.argument = search rules in
     let f = c.fitting.ensures.0 c.if-not-fitting.false in
     record {
-      moves = enters_not (graph s) K vs s.places s.sixteen c.args.place c.args.job-type c.args.argument c.enter.new.self.places c.enter.result f c.if-place-ge16.false (subst (λ n. c.args.job-type < n) (c.type-count.ensures.value ∙ ap (λ w. (workload.view w).types) c.workload.ensures) c.if-job-type-type-count.false) (subst (λ a. Entered s.places c.args.place c.enter.new.self.places (graph s) c.args.job-type a c.enter.result) (to_z-of_z w32 c.args.argument fits) c.enter.ensures.entered) c.if-not-enter.true;
+      moves = enters_not (graph s) K vs s.places s.sixteen c.args.place c.args.job_type c.args.argument c.enter.new.self.places c.enter.result f c.if-place-ge16.false (subst (λ n. c.args.job_type < n) (c.type_count.ensures.value ∙ ap (λ w. (workload.view w).types) c.workload.ensures) c.if-job_type-type_count.false) (subst (λ a. Entered s.places c.args.place c.enter.new.self.places (graph s) c.args.job_type a c.enter.result) (to_z-of_z w32 c.args.argument fits) c.enter.ensures.entered) c.if-not-enter.true;
       ticket = tt;
       workload = c.enter.ensures.workload;
       outside = g.S.WorkingStore.still c.args.self.now.store;
@@ -69,7 +69,7 @@ returns g c =
     let fits : SFits w32 c.args.argument = search rules in
     let f = c.fitting.ensures.0 c.if-not-fitting.false in
     record {
-      moves = enters_so (graph s) K vs s.places s.sixteen c.args.place c.args.job-type c.args.argument c.enter.new.self.places c.enter.result f c.if-place-ge16.false (subst (λ n. c.args.job-type < n) (c.type-count.ensures.value ∙ ap (λ w. (workload.view w).types) c.workload.ensures) c.if-job-type-type-count.false) (subst (λ a. Entered s.places c.args.place c.enter.new.self.places (graph s) c.args.job-type a c.enter.result) (to_z-of_z w32 c.args.argument fits) c.enter.ensures.entered) c.if-not-enter.false;
+      moves = enters_so (graph s) K vs s.places s.sixteen c.args.place c.args.job_type c.args.argument c.enter.new.self.places c.enter.result f c.if-place-ge16.false (subst (λ n. c.args.job_type < n) (c.type_count.ensures.value ∙ ap (λ w. (workload.view w).types) c.workload.ensures) c.if-job_type-type_count.false) (subst (λ a. Entered s.places c.args.place c.enter.new.self.places (graph s) c.args.job_type a c.enter.result) (to_z-of_z w32 c.args.argument fits) c.enter.ensures.entered) c.if-not-enter.false;
       ticket = c.new.ensures.0;
       workload = c.enter.ensures.workload;
       outside = g.S.WorkingStore.still c.args.self.now.store;

@@ -6,8 +6,8 @@ use Rattle.table.specs.View.{graph}
 use Rattle.table.proofs.Moving.{collect_empty, collect_left, collect_soon, gives_register, off, on}
 use Rattle.table.proofs.definition.Table.collect.Goals as goal
 
-pub returns-in-default : goal.returns-in-default
-returns-in-default g c =
+pub returns-in_default : goal.returns-in_default
+returns-in_default g c =
     let s = c.args.self.now.shift in
     let vs = g.S.ShowingStore.values c.args.self.now.store in
     let K = kind_view g.K.Kind in

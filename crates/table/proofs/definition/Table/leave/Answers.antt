@@ -6,8 +6,8 @@ use Rattle.table.specs.View.{graph}
 use Rattle.table.proofs.Moving.{leave_empty, leave_left, leave_over, off, on, unawaited_so}
 use Rattle.table.proofs.definition.Table.leave.Goals as goal
 
-pub returns-in-default : goal.returns-in-default
-returns-in-default g c =
+pub returns-in_default : goal.returns-in_default
+returns-in_default g c =
     let s = c.args.self.now.shift in
     let vs = g.S.ShowingStore.values c.args.self.now.store in
     let K = kind_view g.K.Kind in

@@ -21,7 +21,7 @@ loop-call-preserved g c =
           (view (g.S.ShowingStore.values c.loop-call.self.store) c.loop-call.self.shift)
           (view (g.S.ShowingStore.values c.call-answer.new.self.store) c.call-answer.new.self.shift)
           c.args.calls.now c.loop-call.call-index _ (vec_items c.loop-call.answers) _ c.call-answer.result c.loop-call-test.true len
-          (ap workload_view i.2) i.4 c.push-reserved.ensures.items c.call-answer.ensures.moves,
+          (ap workload_view i.2) i.4 c.push_reserved.ensures.items c.call-answer.ensures.moves,
       search rules,
     )
 

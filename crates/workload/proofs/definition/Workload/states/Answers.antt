@@ -9,4 +9,4 @@ returns c =
     let all = vec_items w.types in
     let j = c.index.result.now in
     let i : c.args.t < length all = omega (arith, w.types.ok.0) in
-    (omega (arith, w.counted), c.as-slice.ensures.value ∙ ap (λ (y : JobType). vec_items y.states) c.index.ensures ∙ sym (states_read all c.args.t j i))
+    (omega (arith, w.counted), c.as_slice.ensures.value ∙ ap (λ (y : JobType). vec_items y.states) c.index.ensures ∙ sym (states_read all c.args.t j i))

@@ -1,6 +1,6 @@
 -- Look-ups in a plan decide what may go.
-use Rattle.std.proofs.Common.{◌≡◌, ℕ, ◌<◌, ◌≤◌, min, Bool, true, false, not, ◌&&◌, ◌||◌, ltb, ◌⊎◌, get_or, Decides, sym, refl, ap, ◌∙◌, subst, inl, inr, arith}
-use Rattle.std.proofs.lemmas.Bool.{and_cases, and_from, and_parts, both_ways, cases_Bool, cases_lt, le-ltb, ltb-false, not-false, not_from_false, not-true, or_cases, or_left, or_right}
+use Rattle.std.proofs.Common.{◌≡◌, ℕ, ◌<◌, ◌≤◌, min, Bool, true, false, not, ◌&&◌, ◌||◌, ltb, ◌⊎◌, get_or, Decides, sym, ap, ◌∙◌, inl, inr, arith}
+use Rattle.std.proofs.lemmas.Bool.{and_cases, and_from, and_parts, both_ways, cases_Bool, le-ltb, ltb-false, not-false, not_from_false, not-true, or_cases, or_left, or_right}
 use Rattle.model.specs.Workload.{Workload, LocalChild, Named}
 use Rattle.model.specs.Table.{MayGo}
 use Rattle.itemset.specs.declared.ItemSet.{ItemSet}

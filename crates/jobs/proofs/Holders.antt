@@ -1,12 +1,12 @@
 -- Who holds an item.
-use Rattle.std.proofs.Common.{◌≡◌, ℕ, ◌<◌, ◌≤◌, Bool, true, false, ◌⊎◌, List, length, get_or, sym, refl, ◌∙◌, subst, inl, inr, arith}
-use mathlib.Core.Option.{Option, none, some}
+use Rattle.std.proofs.Common.{◌≡◌, ℕ, ◌<◌, ◌≤◌, true, false, List, length, get_or, sym, refl, subst, inl, inr, arith}
+use mathlib.Core.Option.{some}
 use Rattle.std.proofs.lemmas.List.{get_or_past}
 use Rattle.std.proofs.lemmas.Bool.{cases_lt}
 use Rattle.model.specs.Table.{Job}
 use Rattle.model.proofs.Job.{clash}
 use Rattle.model.proofs.History.{some_same, none_some}
-use Rattle.jobs.specs.View.{job_view, place_view, places_view, Holding, place_holds}
+use Rattle.jobs.specs.View.{job_view, place_view, Holding, place_holds}
 use Rattle.jobs.specs.declared.record.Place.{Place}
 use Rattle.jobs.specs.declared.record.Place.TheVariants.{Empty, Taken}
 

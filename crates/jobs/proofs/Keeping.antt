@@ -1,7 +1,7 @@
 -- A change at one place keeps what holds of every record.
-use Rattle.std.proofs.Common.{◌≡◌, ℕ, ◌<◌, ◌≤◌, Bool, true, false, ◌⊎◌, List, length, get_or, set, ℤ, sym, refl, ap, ◌∙◌, subst, inl, inr, arith, get_or-set_other, get_or-set_same}
+use Rattle.std.proofs.Common.{◌≡◌, ℕ, ◌<◌, false, List, length, get_or, set, ℤ, sym, ap, ◌∙◌, subst, inl, inr, arith, get_or-set_other, get_or-set_same}
 use mathlib.Core.Logic.{∥∥₁_map}
-use mathlib.Core.Option.{Option, none, some}
+use mathlib.Core.Option.{some}
 use native.Mathlib.Decide.{ℕ_discrete}
 use Rattle.std.proofs.lemmas.List.{get_or_past}
 use Rattle.std.proofs.lemmas.Bool.{cases_lt}
@@ -9,7 +9,7 @@ use Rattle.model.specs.Workload.{Workload, WellFormed}
 use Rattle.model.specs.Table.{Kind, Job, new_job, not_awaited, Steps, releases, works, locks, waits, goes, closes, finishes, Told}
 use Rattle.model.specs.Sound.{Good}
 use Rattle.model.proofs.Tree.{local_root}
-use Rattle.model.proofs.Job.{clash, good_new, good_not_awaited, good_ended, good_held, good_work, good_go, good_lock}
+use Rattle.model.proofs.Job.{good_new, good_not_awaited, good_ended, good_held, good_work, good_go, good_lock}
 use Rattle.model.proofs.History.{some_same, none_some}
 use Rattle.jobs.specs.View.{job_view, place_view, places_view, Sound, PlaceSound, AllSound}
 use Rattle.jobs.specs.declared.record.JobRecord.{JobRecord}

@@ -1,14 +1,11 @@
 -- What a sound record tells the rules of a step.
-use Rattle.std.proofs.Common.{◌≡◌, ℕ, ◌<◌, ◌≤◌, Bool, true, false, ◌||◌, ◌⊎◌, ℤ, sym, ap, ◌∙◌, inl, inr, arith}
+use Rattle.std.proofs.Common.{◌≡◌, ℕ, ◌<◌, Bool, true, false, ◌||◌, ℤ, sym, ◌∙◌, inl, inr, arith}
 use native.Mathlib.Decide.{dec_lt}
-use Rattle.itemset.specs.declared.ItemSet.{ItemSet}
-use Rattle.itemset.specs.Members.{holds}
 use Rattle.rules.specs.declared.plan.Plan.{Plan}
 use Rattle.rules.specs.Plans.{Planned}
-use Rattle.rules.specs.Sets.{Exactly}
 use Rattle.std.proofs.lemmas.Bool.{or_cases, or_left, or_right}
-use Rattle.model.specs.Workload.{Workload, WellFormed, Takes}
-use Rattle.model.specs.Table.{Job, Lowest, WithAll}
+use Rattle.model.specs.Workload.{Takes}
+use Rattle.model.specs.Table.{Lowest, WithAll}
 use Rattle.model.proofs.Job.{clash, element_mem}
 use Rattle.workload.specs.declared.definition.Workload.{Workload as Run}
 use Rattle.workload.specs.View.{view}

@@ -10,7 +10,7 @@ use lib.Dec.{eqb}
 use Rattle.locking.specs.Serial.{Entry, of_job}
 use Rattle.locking.proofs.Lists.{by_test, eqb_same, same_eqb, eqb_apart}
 use Rattle.model.specs.Workload.{Workload, WellFormed}
-use Rattle.model.specs.Table.{Kind, Job, works, Table, Placed}
+use Rattle.model.specs.Table.{Kind, Job, Table, Placed}
 use Rattle.model.specs.Journal.{Journaled, Journal, change}
 use Rattle.model.specs.Sound.{Good}
 use Rattle.model.proofs.Job.{clash}

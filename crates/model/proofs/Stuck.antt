@@ -10,7 +10,7 @@ use Rattle.locking.specs.Tree.{Run, TreeLocked}
 use Rattle.locking.specs.Progress.{Moment, Sound}
 use Rattle.locking.proofs.Progress.{progress}
 use Rattle.model.specs.Workload.{Workload, WellFormed}
-use Rattle.model.specs.Table.{Kind, Job, item_of, Wanted, Told, locked, Steps, releases, works, locks, waits, goes}
+use Rattle.model.specs.Table.{Kind, Job, item_of, Wanted, Told, Steps, releases, works, locks, waits, goes}
 use Rattle.model.specs.Table.{closes, finishes, Table, HoldsAt, step, Answer, Moves, step_no_place, step_no_job, steps}
 use Rattle.model.specs.Journal.{Journal, TellsGoingOn, GoesOn, FreeToMove}
 use Rattle.model.proofs.Tree.{depth, depth_up, local_item}

@@ -13,7 +13,7 @@ use Rattle.rules.specs.Plans.{HasType, Planned}
 use Rattle.rules.specs.Reach.{Joined, Reaches}
 use Rattle.rules.specs.Rules.{Arc, Parent, nowhere}
 use Rattle.rules.specs.Sets.{ChildIn, Deepest, Exactly, LeftBehind, NamesIn, item_at}
-use Rattle.rules.specs.View.{state_at, top_of, workload_of}
+use Rattle.rules.specs.View.{state_at, workload_of}
 use Rattle.rules.proofs.Formed.{top_marked}
 use Rattle.rules.proofs.Matching.{above_reaches, arc_in, arc_out, not_top, reaches_above, reaches_way, way_reaches}
 

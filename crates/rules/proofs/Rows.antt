@@ -1,9 +1,8 @@
 -- Loops over a row of sets, and the closure of a relation.
-use Rattle.std.proofs.Common.{◌≡◌, ℕ, zero, suc, ◌+◌, ◌<◌, ◌≤◌, Bool, true, false, ◌&&◌, ◌||◌, eqb, ◌≢◌, ◌⊎◌, List, length, get_or, set, sym, refl, ap, ◌∙◌, subst, inl, inr, arith, get_or-set_other, get_or-set_same}
-use Rattle.std.proofs.lemmas.List.{get_or_past, get_or_default}
+use Rattle.std.proofs.Common.{◌≡◌, ℕ, ◌+◌, ◌<◌, ◌≤◌, ◌&&◌, ◌||◌, eqb, ◌≢◌, ◌⊎◌, List, length, get_or, set, sym, refl, ap, ◌∙◌, subst, inl, inr, arith, get_or-set_other, get_or-set_same}
+use Rattle.std.proofs.lemmas.List.{get_or_past}
 use Rattle.std.proofs.lemmas.Bool.{cases_lt, cases_eq, both_ways, or_cases, or_left, or_right, and_parts, and_from, eqb-true, eq-eqb}
 use Rattle.itemset.proofs.Laws.{has_none}
-use Rattle.itemset.specs.Members.{has}
 use Rattle.itemset.specs.Members.{holds, nothing}
 use Rattle.rules.specs.Reach.{Joined, Reaches, here, step}
 use Rattle.itemset.specs.declared.ItemSet.{ItemSet}

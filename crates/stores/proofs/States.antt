@@ -2,7 +2,6 @@
 use Rattle.std.proofs.Common.{◌≡◌, ℕ, zero, suc, ◌⊎◌, List, [], ◌∷◌, set, ℤ, unwrap_or, refl, ap, inl, inr}
 use mathlib.Core.Option.{none, some}
 use lib.ListN.{get_elem?}
-use Rattle.model.specs.Workload.{Workload}
 use Rattle.model.specs.Table.{Kind}
 use Rattle.stores.specs.Stores.{register_after, values_after}
 use Rattle.stores.specs.Works.{WorksAt}

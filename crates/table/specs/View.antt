@@ -1,5 +1,5 @@
 -- The table in the words of the model.
-use Rattle.std.specs.Prelude.{ℕ, List}
+use Rattle.std.specs.Prelude.{List}
 use Rattle.jobs.specs.declared.record.Place.{Place}
 use Rattle.jobs.specs.declared.shift.Shift.{Shift}
 use Rattle.jobs.specs.View.{places_view}

@@ -1,14 +1,13 @@
 -- What is read is what was written, part by part.
-use Rattle.std.proofs.Common.{◌≡◌, ℕ, zero, suc, ◌+◌, ◌-◌, ◌*◌, ◌/◌, ◌%◌, ◌^◌, ◌<◌, ◌≤◌, ◌⊎◌, List, [], ◌∷◌, ◌++◌, length, get_or, take, drop, ℤ, Ok, Err, Result, sym, refl, ap, ◌∙◌, subst, inl, inr, append_assoc, arith, length-append, length-drop, length-take, to_z-of_z, w32, Fits, SFits, to_z, of_z}
+use Rattle.std.proofs.Common.{◌≡◌, ℕ, zero, suc, ◌+◌, ◌*◌, ◌/◌, ◌%◌, ◌^◌, ◌<◌, ◌≤◌, List, [], ◌∷◌, ◌++◌, length, get_or, take, drop, ℤ, Ok, sym, refl, ap, ◌∙◌, subst, append_assoc, arith, length-append, to_z-of_z, w32, Fits, SFits, to_z, of_z}
 use native.Mathlib.Nat.{div-div-eq-div-mul}
 use mir.Facts.{of_z-to_z, sfits_to_z, Fits-of_z}
 use Rattle.std.proofs.lemmas.List.{take-append-drop, take_at, drop_at, get_or-append-add, length-take-le}
-use Rattle.std.proofs.ByRecursion.{All-get_or, All-from_get_or, All-weaker}
+use Rattle.std.proofs.ByRecursion.{All-get_or, All-from_get_or}
 use Rattle.std.specs.List.{AllByRecursion as All, flat_map}
-use Rattle.workload.specs.declared.fault.Fault.{Fault}
 use Rattle.workload.specs.declared.fault.Fault.TheVariants.{Missing}
 use Rattle.rules.specs.declared.state.State.{State}
-use Rattle.workload.specs.Encoding.{mark, version, pair, quad, record_bytes, type_bytes, note_bytes, encoded}
+use Rattle.workload.specs.Encoding.{record_bytes, type_bytes}
 use Rattle.workload.specs.Format.{signed, state_of}
 use Rattle.rules.specs.Lawful.{Packed}
 use Rattle.rules.specs.Rules.{Connected, Rooted, nowhere}

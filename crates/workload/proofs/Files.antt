@@ -1,5 +1,5 @@
 -- A file is read whole exactly where it is the bytes of a lawful workload and a note.
-use Rattle.std.proofs.Common.{◌≡◌, ℕ, zero, suc, ◌+◌, ◌-◌, ◌*◌, ◌/◌, ◌%◌, ◌<◌, ◌≤◌, List, [], ◌∷◌, ◌++◌, length, get_or, take, drop, Ok, Err, sym, refl, ap, ◌∙◌, subst, append_assoc, arith, length-append, length-drop}
+use Rattle.std.proofs.Common.{◌≡◌, ℕ, ◌+◌, ◌-◌, ◌*◌, ◌/◌, ◌%◌, ◌≤◌, List, [], ◌∷◌, ◌++◌, length, get_or, drop, Ok, Err, sym, refl, ap, ◌∙◌, subst, append_assoc, arith, length-append, length-drop}
 use Rattle.std.proofs.lemmas.List.{drop_at}
 use Rattle.std.proofs.ByRecursion.{All-get_or, All-from_get_or}
 use Rattle.std.specs.List.{AllByRecursion as All, flat_map}
@@ -9,7 +9,6 @@ use Rattle.workload.specs.declared.fault.Fault.TheVariants.{Missing}
 use Rattle.rules.specs.declared.state.State.{State}
 use Rattle.workload.specs.Encoding.{mark, version, pair, type_bytes, note_bytes, encoded}
 use Rattle.rules.specs.Lawful.{Lawful}
-use Rattle.rules.specs.Rules.{Rooted}
 use Rattle.rules.proofs.Fine.{FineType}
 use Rattle.rules.proofs.Formed.{fine_of, lawful_from, rooted_of}
 use Rattle.workload.specs.Files.{Surveyed}

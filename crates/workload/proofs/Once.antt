@@ -1,5 +1,5 @@
 -- No bytes have two answers.
-use Rattle.std.proofs.Common.{◌≡◌, ℕ, zero, suc, ◌+◌, ◌-◌, ◌*◌, ◌<◌, ◌≤◌, ◌⊎◌, List, [], ◌∷◌, length, get_or, take, drop, Ok, Err, Result, sym, refl, ap, ◌∙◌, subst, inl, inr, arith}
+use Rattle.std.proofs.Common.{◌≡◌, ℕ, zero, suc, ◌+◌, ◌-◌, ◌*◌, List, [], ◌∷◌, length, take, Ok, Err, sym, ap, ◌∙◌, subst, inl, inr, arith}
 use Rattle.std.proofs.lemmas.Bool.{cases_lt}
 use Rattle.workload.specs.declared.fault.Fault.{Fault}
 use Rattle.workload.specs.declared.fault.Fault.TheVariants.{Record, Tree, Stray}
@@ -8,7 +8,7 @@ use Rattle.workload.specs.Encoding.{mark, version}
 use Rattle.rules.specs.Rules.{Lowest, Placed, Rooted}
 use Rattle.workload.specs.Reads as reads
 use Rattle.workload.specs.Reads.{Answer, Part, Done, Then, stops, goes, Several, Only, Sign, Range, Parents, StateRecord, Ways, TypePart, Note, Header, File, Contents, right, other, inside, outside, broken, tree, stray, joined, long, short, trailing, whole, wrong, sound}
-use Rattle.workload.proofs.Parts.{same_ok, same_err, ok_err, value_same, rest_same}
+use Rattle.workload.proofs.Parts.{same_ok, same_err, ok_err}
 
 pub done_only : {X : Type 0} (x : X) → Only (Done x)
 done_only x bs a b p q = p ∙ sym q

@@ -1,8 +1,7 @@
 -- The parts of a file: one after the other, and at most one answer each.
-use Rattle.std.proofs.Common.{◌≡◌, ℕ, zero, suc, ◌+◌, ◌-◌, ◌*◌, ◌<◌, ◌≤◌, ◌⊎◌, List, [], ◌∷◌, ◌++◌, length, get_or, take, drop, Ok, Err, Result, sym, refl, ap, ◌∙◌, subst, inl, inr, add-one, arith}
-use Rattle.std.proofs.lemmas.Bool.{cases_lt, cases_eq}
+use Rattle.std.proofs.Common.{◌≡◌, ℕ, zero, suc, ◌+◌, ◌-◌, ◌<◌, ◌≤◌, List, [], ◌∷◌, ◌++◌, length, take, drop, Ok, Err, Result, sym, refl, ap, ◌∙◌, subst, add-one, arith}
 use Rattle.workload.specs.declared.fault.Fault.{Fault}
-use Rattle.workload.specs.declared.fault.Fault.TheVariants.{Tree, Stray}
+use Rattle.workload.specs.declared.fault.Fault.TheVariants.{Tree}
 use Rattle.rules.specs.declared.state.State.{State}
 use Rattle.rules.specs.Rules.{BreaksAt, Lowest, Placed, Rooted, StraysAt, stray, too_many_items, too_many_states, unrooted}
 use Rattle.workload.specs.Reads.{Answer, Part, Done, Then, stops, goes, Several, Parents, broken, tree}

@@ -1,10 +1,6 @@
 -- What the readers answer.
-use Rattle.std.proofs.Common.{◌≡◌, ℕ, zero, suc, ◌+◌, ◌-◌, ◌*◌, ◌^◌, ◌<◌, ◌≤◌, Bool, true, false, cond, eqb, ltb, leb, List, [], ◌∷◌, ◌++◌, length, get_or, take, drop, ℤ, Ok, Err, Result, sym, refl, ap, ◌∙◌, subst, append_assoc, arith, w8, w32, Fits, to_z, of_z}
-use native.Mathlib.Numerals.{unary_clauses}
-use Rattle.std.proofs.lemmas.Bool.Decides.{nat_tests}
+use Rattle.std.proofs.Common.{◌≡◌, ℕ, ◌+◌, ◌*◌, ◌≤◌, List, [], ◌∷◌, length, get_or, take, ℤ, refl, ap, ◌∙◌, arith, w8, w32, Fits, to_z, of_z}
 use mir.Facts.{of_z-to_z}
-use Rattle.std.proofs.lemmas.List.{take_rest}
-use Rattle.std.proofs.lemmas.Bool.{le-ltb, lt-leb}
 use Rattle.workload.specs.Format.{signed, state_of}
 use Rattle.rules.specs.declared.state.State.{State}
 

@@ -1,8 +1,7 @@
 -- The small files.
-use Rattle.std.proofs.Common.{◌≡◌, ℕ, zero, suc, ◌<◌, ◌≤◌, List, [], ◌∷◌, ◌++◌, length, get_or, Ok, refl, arith}
+use Rattle.std.proofs.Common.{ℕ, List, [], ◌∷◌, Ok, refl, arith}
 use mir.Facts.{sfits_lit}
 use Rattle.workload.specs.declared.fault.Fault.TheVariants.{Missing, Tail}
-use Rattle.rules.specs.declared.state.State.{State}
 use Rattle.workload.specs.Encoding.{type_bytes}
 use Rattle.rules.specs.Lawful.{Lawful}
 use Rattle.rules.proofs.Fine.{FineType}

@@ -1,5 +1,5 @@
 -- A workload of one lone state keeps the rules.
-use Rattle.std.proofs.Common.{◌≡◌, ℕ, zero, suc, ◌<◌, ◌≤◌, List, [], ◌∷◌, length, get_or, ℤ, sym, refl, ap, ◌∙◌, subst, subst₂, inr, arith, w32, SFits}
+use Rattle.std.proofs.Common.{◌≡◌, ℕ, zero, suc, ◌<◌, ◌≤◌, List, [], ◌∷◌, length, get_or, ℤ, sym, refl, ap, ◌∙◌, subst₂, inr, arith, w32, SFits}
 use Rattle.rules.specs.declared.state.State.{State}
 use Rattle.rules.specs.Lawful.{Lawful}
 use Rattle.rules.specs.Reach.{here}

@@ -1,15 +1,10 @@
 -- What every workload that exists keeps, outright.
-use Rattle.std.proofs.Common.{◌≡◌, ℕ, zero, suc, ◌<◌, ◌≤◌, List, [], ◌∷◌, ◌++◌, length, get_or, vec_items, vec_len, sym, refl, ap, ◌∙◌, arith}
+use Rattle.std.proofs.Common.{ℕ, ◌<◌, ◌≤◌}
 use mathlib.Core.Logic.{∥∥₁_elim, ∥∥₁_map}
 use native.Mathlib.Bridge.{le_prop}
 use Rattle.model.specs.Workload.{WellFormed}
 use Rattle.model.proofs.Formed.{formed_out}
-use Rattle.rules.specs.declared.state.State.{State}
-use Rattle.rules.specs.Lawful.{Lawful}
-use Rattle.rules.specs.View.{top_of, workload_of}
-use Rattle.workload.specs.declared.definition.JobType.{JobType}
 use Rattle.workload.specs.declared.definition.Workload.{Workload}
-use Rattle.workload.specs.Types.{all_states}
 use Rattle.workload.specs.View.{view}
 
 -- every workload that exists is well formed, outright: each rule can be decided

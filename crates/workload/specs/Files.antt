@@ -1,5 +1,5 @@
 -- What reading a workload file promises.
-use Rattle.std.specs.Prelude.{◌≡◌, ℕ, ◌+◌, ◌<◌, ◌≤◌, ◌⊎◌, List, [], ◌++◌, length, take, drop, Ok, Err, vec_items, Result}
+use Rattle.std.specs.Prelude.{◌≡◌, ℕ, ◌+◌, ◌≤◌, ◌⊎◌, List, [], length, drop, Ok, vec_items}
 use Rattle.workload.specs.declared.fault.Fault.{Fault}
 use Rattle.workload.specs.declared.fault.Fault.TheVariants.{Memory}
 use Rattle.workload.specs.declared.file.NoteSpan.{NoteSpan}

@@ -1,4 +1,3 @@
-use Prim.Native.Nat.{◌<◌}
 use native.Mathlib.Omega.{arith}
 use Rattle.workload.specs.View.{HasState, view}
 use Rattle.workload.proofs.Keeping.{by_cases}

@@ -1,4 +1,4 @@
-use Rattle.std.proofs.Common.{◌≡◌, ◌^◌, ◌<◌, subst, arith}
+use Rattle.std.proofs.Common.{◌^◌, ◌<◌, arith}
 use Rattle.itemset.proofs.Laws.{has_none, holds_below, lowest_trailing}
 use Rattle.itemset.proofs.word.lowest.Goals as goal
 

@@ -1,4 +1,4 @@
-use Rattle.std.proofs.Common.{◌^◌, ◌<◌, arith}
+use Rattle.std.proofs.Common.{arith}
 use Rattle.itemset.proofs.Laws.{has_removed, has_unremoved}
 use Rattle.itemset.proofs.word.without.Goals as goal
 

@@ -1,4 +1,4 @@
-use Rattle.std.proofs.Common.{◌≡◌, ℕ, ◌+◌, ◌<◌, ◌≤◌, true, sym, subst, inl, inr, arith}
+use Rattle.std.proofs.Common.{ℕ, subst, inl, inr, arith}
 use Rattle.itemset.specs.Members.{holds}
 use Rattle.std.proofs.lemmas.Bool.{both_ways, cases_eq, cases_lt}
 use Rattle.model.specs.Table.{MayGo}

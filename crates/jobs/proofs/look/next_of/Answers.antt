@@ -1,4 +1,4 @@
-use Rattle.std.proofs.Common.{◌≡◌, ℤ, ap, ◌∙◌, arith, to_z-of_z}
+use Rattle.std.proofs.Common.{ℤ, ap, ◌∙◌, arith, to_z-of_z}
 use Rattle.model.specs.Workload.{choice}
 use Rattle.workload.specs.View.{view}
 use Rattle.jobs.proofs.Looks.{takes_arc}

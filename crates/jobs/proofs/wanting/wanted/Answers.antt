@@ -1,4 +1,4 @@
-use Rattle.std.proofs.Common.{◌≡◌, ℕ, ◌<◌, true, false, sym, refl, ap, ◌∙◌, subst, arith, rules}
+use Rattle.std.proofs.Common.{◌≡◌, ℕ, ◌<◌, true, false, sym, subst}
 use Rattle.model.proofs.Tree.{depth, depth_up}
 use Rattle.jobs.specs.View.{job_view}
 use Rattle.jobs.proofs.Sounds.{type_ok, state_ok}

@@ -1,5 +1,5 @@
 use Rattle.std.proofs.Common.{◌≡◌, ◌≤◌, length, arith}
-use Rattle.rules.proofs.Rows.{Closing, closing_none, closing_more, through, closed_sound, closed_complete}
+use Rattle.rules.proofs.Rows.{closing_none, closing_more, through, closed_sound, closed_complete}
 use Rattle.rules.proofs.closure.close.Goals as goal
 
 pub loop-k-init : goal.loop-k-init

@@ -1,5 +1,5 @@
-use Rattle.std.proofs.Common.{◌≡◌, ◌<◌, ◌||◌, eqb, length, get_or, ap, ◌∙◌, arith}
-use Rattle.itemset.specs.Members.{holds, nothing}
+use Rattle.std.proofs.Common.{◌||◌, eqb, ap, ◌∙◌, arith}
+use Rattle.itemset.specs.Members.{holds}
 use Rattle.rules.proofs.Rows.{come_more}
 use Rattle.rules.proofs.closure.join_selves.Goals as goal
 

@@ -1,4 +1,3 @@
-use Rattle.std.proofs.Common.{◌<◌}
 use Rattle.rules.specs.Sets.{ChildIn}
 use Rattle.rules.proofs.Gathering.{Shared}
 use Rattle.rules.proofs.local.children_in.Given as goal

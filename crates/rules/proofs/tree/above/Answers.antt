@@ -1,4 +1,4 @@
-use Rattle.std.proofs.Common.{◌≡◌, ◌<◌, length, get_or, sym, subst, arith}
+use Rattle.std.proofs.Common.{◌<◌, length, arith}
 use Rattle.rules.specs.Rules.{Parent}
 use Rattle.rules.proofs.Gathering.{filled_none, filled_more, filled_all, reached_decides}
 use Rattle.rules.proofs.tree.above.Goals as goal

@@ -1,4 +1,4 @@
-use Rattle.std.proofs.Common.{◌≡◌, sym, ◌∙◌, inl, inr, arith, below_more}
+use Rattle.std.proofs.Common.{inl, inr, arith, below_more}
 use Rattle.std.proofs.lemmas.Bool.{both_ways}
 use Rattle.rules.specs.Rules.{Rooted, unrooted}
 use Rattle.rules.proofs.tree.lowest_unrooted.Goals as goal

@@ -1,6 +1,5 @@
 use Rattle.std.proofs.Common.{get_or, arith}
 use Rattle.itemset.specs.Members.{nothing}
-use Rattle.rules.specs.Reach.{Joined}
 use Rattle.rules.proofs.Gathering.{both, holding, lacking}
 use Rattle.rules.proofs.Rows.{joined_within}
 use Rattle.rules.proofs.unlocking.left_behind.Goals as goal

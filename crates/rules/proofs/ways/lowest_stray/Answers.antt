@@ -1,4 +1,4 @@
-use Rattle.std.proofs.Common.{◌≡◌, sym, ◌∙◌, inl, inr, arith, below_more}
+use Rattle.std.proofs.Common.{sym, ◌∙◌, inl, inr, arith, below_more}
 use Rattle.std.proofs.lemmas.Bool.{both_ways}
 use Rattle.rules.specs.Rules.{Placed, stray}
 use Rattle.rules.proofs.ways.lowest_stray.Goals as goal

@@ -1,8 +1,7 @@
 use Rattle.std.proofs.Common.{◌≡◌, ◌<◌, ◌≤◌, length, set, Some, sym, refl, ap, ◌∙◌, arith, length-take, drop-set-lt, w32, SFits, rules}
-use Rattle.std.proofs.lemmas.Option.{slice_get_read}
 use Rattle.std.proofs.lemmas.Int.{to_z-of_z}
 use Rattle.stores.specs.Stores.{counted}
-use Rattle.stores.proofs.Acts.{nth_take, register_past, register_read, after_past, after_read, after_take}
+use Rattle.stores.proofs.Acts.{register_past, register_read, after_past, after_read, after_take}
 use Rattle.stores.proofs.row.act_at.Goals as goal
 
 pub returns-then-i-min : goal.returns-then-i-min

@@ -1,4 +1,4 @@
-use Rattle.std.proofs.Common.{◌≡◌, length, unwrap_or, ap, ◌∙◌, w32, SFits, rules}
+use Rattle.std.proofs.Common.{length, unwrap_or, ap, ◌∙◌, w32, SFits, rules}
 use Rattle.std.proofs.lemmas.Int.{to_z-of_z}
 use Rattle.kinds.specs.View.{view}
 use Rattle.stores.proofs.Acts.{after_length}

@@ -1,4 +1,4 @@
-use Rattle.std.proofs.Common.{◌≡◌, ◌≤◌, List, [], map, length, vec_items, vec_capacity, ap, ◌∙◌, subst, arith}
+use Rattle.std.proofs.Common.{◌≡◌, [], map, length, vec_items, ap, ◌∙◌, subst, arith}
 use Rattle.model.specs.Workload.{Workload}
 use Rattle.model.specs.Journal.{new, Reached, Promise}
 use Rattle.model.proofs.Answered.{reached_length}

@@ -1,4 +1,4 @@
-use Rattle.std.proofs.Common.{◌≡◌, ℕ, ◌-◌, ◌*◌, ◌<◌, ◌≤◌, List, length, get_or, take, Ok, Err, sym, refl, ap, subst, arith}
+use Rattle.std.proofs.Common.{ℕ, ◌-◌, ◌*◌, length, take, Ok, Err, sym, refl, ap, subst, arith}
 use Rattle.std.proofs.lemmas.Result.{err_from_is_err_and}
 use Rattle.workload.specs.declared.fault.Fault.TheVariants.{Stray}
 use Rattle.rules.specs.Rules.{Connected}

@@ -1,4 +1,4 @@
-use Rattle.std.proofs.Common.{◌≡◌, ℤ, sym, refl, ap, ◌∙◌, subst, arith, to_z-of_z}
+use Rattle.std.proofs.Common.{ℤ, sym, refl, ap, ◌∙◌, subst, arith, to_z-of_z}
 use Rattle.model.specs.Table.{Job, new_job}
 use Rattle.workload.specs.View.{view}
 use Rattle.workload.proofs.Uses.{well_formed}

@@ -1,11 +1,11 @@
-use Rattle.std.proofs.Common.{◌≡◌, sym, refl, ◌∙◌, subst}
+use Rattle.std.proofs.Common.{sym, refl, ◌∙◌, subst}
 use Rattle.kinds.specs.View.{view as kind_view}
 use Rattle.model.specs.Table.{Job}
 use Rattle.model.proofs.Step.{seat_some}
 use Rattle.workload.specs.View.{view}
 use Rattle.workload.proofs.Uses.{well_formed}
 use Rattle.jobs.specs.Turns.{steps}
-use Rattle.jobs.specs.View.{Holding, Sound, job_view, told_view}
+use Rattle.jobs.specs.View.{Holding, Sound, job_view}
 use Rattle.jobs.proofs.Keeping.{sound_step, taken_view, taken_within}
 use Rattle.jobs.proofs.shift.Shift.step.Goals as goal
 

@@ -1,4 +1,4 @@
-use Rattle.std.proofs.Common.{◌≡◌, List, [], ◌∷◌, ℤ, vec_items, ap, ◌∙◌, to_z-of_z}
+use Rattle.std.proofs.Common.{List, [], ◌∷◌, ℤ, vec_items, ap, ◌∙◌, to_z-of_z}
 use Rattle.rules.specs.declared.state.State.{State}
 use Rattle.workload.specs.Types.{all_states, lone_state}
 use Rattle.workload.proofs.Starting.{single_lawful}

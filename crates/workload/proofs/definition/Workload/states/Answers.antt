@@ -1,4 +1,4 @@
-use Rattle.std.proofs.Common.{◌≡◌, ◌<◌, length, vec_items, sym, ap, ◌∙◌, arith}
+use Rattle.std.proofs.Common.{◌<◌, length, vec_items, sym, ap, ◌∙◌, arith}
 use Rattle.workload.specs.declared.definition.JobType.{JobType}
 use Rattle.workload.proofs.Lists.{states_read}
 use Rattle.workload.proofs.definition.Workload.states.Goals as goal

@@ -34,7 +34,7 @@ pub(crate) fn plan_of(workload: &Workload, t: u8) -> &Plan
 
 // The parent of an item that has one.
 pub(crate) fn parent_of(workload: &Workload, d: u8) -> u8
-    requires { (d < (view workload.now).items) × ((d ≢ (view workload.now).top)) }
+    requires { (d < (view workload.now).items) × (d ≢ (view workload.now).top) }
     ensures { result ≡ (view workload.now).up d }
 {
     match workload.parent(d) {

@@ -1,9 +1,10 @@
 // Three jobs by turns, of which only one serial order explains the result: the third, the first, the second.
-use crate::tables::{answers, same};
+use crate::tables::{add_and_read, answers, same};
 use jobs::record::StepAnswer;
 use kinds::tally::Tally;
 use std::test::Fail;
 use table::answer::{Answer, Call};
+use table::rows::run_row;
 
 const CALLS: [Call; 24] = [
     Call::Begin(0, 0, 10),
@@ -65,5 +66,29 @@ fn three_jobs_by_turns(rt: HostRuntime) -> Result<(), Fail> {
     let told = answers::<Tally>(rt.alloc(), &mut tallies, &CALLS)?;
     same(&rt, told.as_slice(), &ANSWERS);
     assert_eq!(rt; tallies, [0, 10, 7]);
+    Ok(())
+}
+
+// The same over the row itself: answers and shown numbers come back as plain data.
+#[test]
+fn three_jobs_over_a_row(rt: HostRuntime) -> Result<(), Fail> {
+    let mut tallies = [0, 0, 0];
+    let workload = add_and_read(rt.alloc())?;
+    let outcome = run_row::<Tally>(&mut tallies, workload, rt.alloc(), &CALLS)?;
+    same(&rt, outcome.answers.as_slice(), &ANSWERS);
+    assert_eq!(rt; outcome.shown.as_slice(), [0i64, 10, 7].as_slice());
+    assert_eq!(rt; tallies, [0, 10, 7]);
+    Ok(())
+}
+
+// No call changes nothing, and the items still show.
+#[test]
+fn no_calls_over_a_row(rt: HostRuntime) -> Result<(), Fail> {
+    let mut tallies = [4, -5, 6];
+    let workload = add_and_read(rt.alloc())?;
+    let outcome = run_row::<Tally>(&mut tallies, workload, rt.alloc(), &[])?;
+    assert!(rt; outcome.answers.is_empty());
+    assert_eq!(rt; outcome.shown.as_slice(), [4i64, -5, 6].as_slice());
+    assert_eq!(rt; tallies, [4, -5, 6]);
     Ok(())
 }

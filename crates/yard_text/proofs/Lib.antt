@@ -1,2 +1,4 @@
 pub mod Lines
 pub mod Bytes
+pub mod Splits
+pub mod Calls

@@ -1,4 +1,4 @@
-use Rattle.std.proofs.Common.{◌≡◌, ℕ, ◌+◌, ◌*◌, ◌<◌, length, sym, ap, ◌∙◌, subst, arith, take_all, rules}
+use Rattle.std.proofs.Common.{ℕ, ◌+◌, ◌*◌, ◌<◌, length, sym, ap, ◌∙◌, subst, take_all, rules}
 use Rattle.std.specs.Str.Parse.{AllDigits, digits_value}
 use Rattle.yard_text.proofs.Bytes.{digits_more, digits_at, value_next, too_large, no_digit}
 use Rattle.yard_text.proofs.input.number.Goals as goal

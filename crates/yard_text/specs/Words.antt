@@ -64,15 +64,15 @@ collect_word (answers.Stepped a) = Dash
 collect_word answers.Left = Dash
 
 -- in the first line each step has a word, and each refused begin
-abbrev pub turn_word_lem : Call → Answer → Option Word
-turn_word_lem (calls.Begin p t a) x = begin_word p x
-turn_word_lem (calls.Step p) x = step_word p x
-turn_word_lem (calls.Collect p) x = None
-turn_word_lem (calls.Leave p) x = None
+abbrev pub word_of_turn : Call → Answer → Option Word
+word_of_turn (calls.Begin p t a) x = begin_word p x
+word_of_turn (calls.Step p) x = step_word p x
+word_of_turn (calls.Collect p) x = None
+word_of_turn (calls.Leave p) x = None
 
 -- and in the second each collect
-abbrev pub end_word_lem : Call → Answer → Option Word
-end_word_lem (calls.Begin p t a) x = None
-end_word_lem (calls.Step p) x = None
-end_word_lem (calls.Collect p) x = Some (collect_word x)
-end_word_lem (calls.Leave p) x = None
+abbrev pub word_of_end : Call → Answer → Option Word
+word_of_end (calls.Begin p t a) x = None
+word_of_end (calls.Step p) x = None
+word_of_end (calls.Collect p) x = Some (collect_word x)
+word_of_end (calls.Leave p) x = None

@@ -1,6 +1,6 @@
 // Words of the output.
 ghost use Rattle.std.specs.Prelude.{◌≡◌, IfOk, Some, string_bytes};
-ghost use Rattle.yard_text.specs.Words.{turn_word_lem, end_word_lem, word_bytes, line_bytes};
+ghost use Rattle.yard_text.specs.Words.{word_of_turn, word_of_end, word_bytes, line_bytes};
 
 use jobs::record::StepAnswer;
 use std::alloc::{AllocError, Global};
@@ -70,7 +70,7 @@ pub fn line(heap: Global, words: &[Word]) -> Result<String, AllocError>
 
 // The word of the first line for a call and its answer: for each step, and for a refused begin.
 pub fn turn_word(call: Call, answer: Answer) -> Option<Word>
-    ensures { result ≡ turn_word_lem call answer }
+    ensures { result ≡ word_of_turn call answer }
 {
     match (call, answer) {
         (Call::Step(place), Answer::Stepped(told)) => Some(Word::Told(place, told)),
@@ -84,7 +84,7 @@ pub fn turn_word(call: Call, answer: Answer) -> Option<Word>
 
 // The word of the second line for a call and its answer: for each collect.
 pub fn end_word(call: Call, answer: Answer) -> Option<Word>
-    ensures { result ≡ end_word_lem call answer }
+    ensures { result ≡ word_of_end call answer }
 {
     match (call, answer) {
         (Call::Collect(_), Answer::Collected(register)) => Some(Word::Register(register)),

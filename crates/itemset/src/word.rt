@@ -1,4 +1,5 @@
 // What operations on a 64-bit word do to the set of numbers that its binary digits hold.
+// They stand apart from the methods of the set, so that an edit that turns a method is refused at the method itself.
 ghost use Rattle.std.specs.Prelude.{◌≡◌, ℕ, ◌<◌, min, true, false, not, ◌&&◌, ◌||◌, Decides, MatchOption, ◌==◌, nat_lt};
 ghost use Rattle.itemset.specs.Members.{has};
 
@@ -40,7 +41,7 @@ pub(crate) fn without(word: u64, d: u8) -> u64
     if d >= 64 {
         return word;
     }
-    word ^ (word & (1 << d))
+    word & !(1 << d)
 }
 
 // What is in one of the two.
@@ -61,7 +62,7 @@ pub(crate) fn both(a: u64, b: u64) -> u64
 pub(crate) fn first_only(a: u64, b: u64) -> u64
     ensures { (e : ℕ) → has result e ≡ (has a e && not (has b e)) }
 {
-    a ^ (a & b)
+    a & !b
 }
 
 pub(crate) fn is_none(word: u64) -> bool

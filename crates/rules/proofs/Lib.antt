@@ -6,3 +6,6 @@ pub mod Matching
 pub mod Formed
 pub mod Planning
 pub mod Settled
+pub mod Made
+pub mod Placed
+pub mod Lowest

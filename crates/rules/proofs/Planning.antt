@@ -1,5 +1,5 @@
 -- The parts of a plan are what the definitions say of its job type.
-use Rattle.std.proofs.Common.{◌≡◌, ℕ, ◌<◌, ◌≤◌, true, false, List, [], length, get_or, Decides, sym, refl, subst, inl, inr, arith}
+use Rattle.std.proofs.Common.{◌≡◌, ℕ, ◌<◌, ◌≤◌, true, false, List, [], length, get_or, Decides, sym, refl, ◌∙◌, subst, inl, inr, arith}
 use Rattle.std.proofs.lemmas.Bool.{both_ways, cases_Bool}
 use Rattle.model.specs.Workload as model
 use Rattle.model.specs.Workload.{Workload, Above, Way, stay, onward, WellFormed, Unreachable, Unlockable, Named, Common, LocalRoot, Local, LocalChild, LocalLeaf}
@@ -15,6 +15,7 @@ use Rattle.rules.specs.Rules.{Arc, Parent, nowhere}
 use Rattle.rules.specs.Sets.{ChildIn, Deepest, Exactly, LeftBehind, NamesIn, item_at}
 use Rattle.rules.specs.View.{state_at, workload_of}
 use Rattle.rules.proofs.Formed.{top_marked}
+use Rattle.rules.proofs.Rows.{joined_within}
 use Rattle.rules.proofs.Matching.{above_reaches, arc_in, arc_out, not_top, reaches_above, reaches_way, way_reaches}
 
 -- a way to a state begins in a state
@@ -25,14 +26,54 @@ from_state (onward x y z e w) j = e.0
 -- the rows of the tree, and the items that are or lie above every item that the states name
 pub record Rooting (parents : List ℕ) (states : List State) (up : List ItemSet) (shared : ItemSet) : Type 0 where
   pub few : length parents ≤ 64
-  pub above : (i r : ℕ) → i < 64 → Decides (holds (get_or up i nothing) r) (Reaches (Parent parents) i r)
+  pub above : (i : ℕ) → i < 64 → Exactly (get_or up i nothing) (Reaches (Parent parents) i)
   pub common : Exactly shared (λ a. (a < 64) × ((s : ℕ) → s < length states → Joined up (item_at states s) a))
+
+-- each state names an item below 64, and the set holds the items that they name
+pub record Naming (states : List State) (named : ItemSet) : Type 0 where
+  pub items : (s : ℕ) → s < length states → item_at states s < 64
+  pub are : Exactly named (λ d. (s : ℕ) × (s < length states) × (item_at states s ≡ d))
+
+-- what states that name items below 64 name
+module _ (states : List State) (items : (s : ℕ) → s < length states → item_at states s < 64) where
+  pub named_by : (set x : ItemSet) → Exactly x (λ d. (d < 64) × NamesIn states set d) → Exactly x (NamesIn states set)
+  named_by set x h d = (λ e. ((h d).0 e).1, λ q. (h d).1 (let i = items q.0 q.1 in omega (arith, q.2.1), q))
+
+  pub naming : (all named : ItemSet) → ((s : ℕ) → s < length states → holds all s ≡ true) → Exactly named (λ d. (d < 64) × NamesIn states all d) → Naming states named
+  naming all named a h =
+      record {
+        items = items;
+        are = λ d. (λ e. let q = ((h d).0 e).1 in (q.0, q.1, q.2.1), λ q. (named_by all named h d).1 (q.0, q.1, (a q.0 q.1, q.2)));
+      }
+
+module _ (states : List State) (named : ItemSet) (N : Naming states named) (up : List ItemSet) where
+  pub common_named
+      : (shared : ItemSet) → Exactly shared (λ a. (a < 64) × ((d : ℕ) → d < 64 → holds named d ≡ true → Joined up d a))
+      → Exactly shared (λ a. (a < 64) × ((s : ℕ) → s < length states → Joined up (item_at states s) a))
+  common_named shared h a = (
+    λ e. let q = (h a).0 e in (q.0, λ s l. q.1 (item_at states s) (N.items s l) ((N.are (item_at states s)).1 (s, l, refl))),
+    λ q. (h a).1 (q.0, λ d l e. let n = (N.are d).0 e in subst (λ (x : ℕ). Joined up x a) n.2 (q.1 n.0 n.1)),
+  )
+
+  pub some_named
+      : (some : ItemSet) → Exactly some (λ a. (d : ℕ) × (d < 64) × ((holds named d ≡ true) × Joined up d a))
+      → Exactly some (λ a. (s : ℕ) × (s < length states) × Joined up (item_at states s) a)
+  some_named some h a = (
+    λ e. let q = (h a).0 e in let n = (N.are q.0).0 q.2.0 in (n.0, n.1, subst (λ (x : ℕ). Joined up x a) (sym n.2) q.2.1),
+    λ q. (h a).1 (item_at states q.0, N.items q.0 q.1, ((N.are (item_at states q.0)).1 (q.0, q.1, refl), q.2)),
+  )
+
+-- what a row lacks of a set
+pub lacking_of
+    : {P Q : ℕ → Type 0} (all x : ItemSet) → Exactly all P → Exactly x (λ d. (holds all d ≡ true) × Q d) → Exactly x (λ d. P d × Q d)
+lacking_of all x a h d = (λ e. let q = (h d).0 e in ((a d).0 q.0, q.1), λ q. (h d).1 ((a d).1 q.0, q.1))
 
 -- the rows of the states: arcs, what is reached, and the items that are named ahead and behind
 pub record Going (states : List State) (arcs reached back ahead behind : List ItemSet) : Type 0 where
   pub short : length states ≤ 32
-  pub arcs_are : (s m : ℕ) → Decides (holds (get_or arcs s nothing) m) (Arc states s m)
-  pub reached_are : (s m : ℕ) → s < 32 → Decides (holds (get_or reached s nothing) m) (Reaches (Arc states) s m)
+  pub arcs_long : length arcs ≡ 32
+  pub arcs_are : (s : ℕ) → s < 32 → Exactly (get_or arcs s nothing) (Arc states s)
+  pub reached_are : (s : ℕ) → s < 32 → Exactly (get_or reached s nothing) (Reaches (Arc states) s)
   pub back_are : (m : ℕ) → m < 32 → Exactly (get_or back m nothing) (λ s. Joined reached s m)
   pub ahead_are : (s : ℕ) → s < 32 → Exactly (get_or ahead s nothing) (NamesIn states (get_or reached s nothing))
   pub behind_are : (s : ℕ) → s < 32 → Exactly (get_or behind s nothing) (NamesIn states (get_or back s nothing))
@@ -46,13 +87,10 @@ pub record Made (parents : List ℕ) (states : List State) (p : Plan) : Type 0 w
   pub under : ItemSet
   pub under_is : Exactly under (λ d. Joined up d p.root)
   pub local_is : Exactly p.local (λ d. Joined up d p.root × ((s : ℕ) × (s < length states) × Joined up (item_at states s) d))
-  pub children_long : length p.children ≡ 64
   pub children_are : (d : ℕ) → d < 64 → Exactly (get_or p.children d nothing) (ChildIn parents p.local d)
-  pub leaves_are : Exactly p.leaves (λ d. (d < length p.children) × (holds p.local d ≡ true) × ((c : ℕ) → holds (get_or p.children d nothing) c ≡ false))
+  pub leaves_are : Exactly p.leaves (λ d. (d < 64) × (holds p.local d ≡ true) × ((c : ℕ) → holds (get_or p.children d nothing) c ≡ false))
   pub way_down_is : (d : ℕ) → d < 64 → Exactly (get_or p.way_down d nothing) (λ a. (holds under a ≡ true) × Joined up d a)
-  pub all : ItemSet
-  pub all_is : Exactly all (λ s. s < length states)
-  pub named_is : Exactly p.named (NamesIn states all)
+  pub named_is : Exactly p.named (λ d. (s : ℕ) × (s < length states) × (item_at states s ≡ d))
   pub arcs : List ItemSet
   pub reached : List ItemSet
   pub back : List ItemSet
@@ -70,7 +108,7 @@ module _ (parents : List ℕ) (codes : ℕ) (types : List (List State)) (t : ℕ
   module _ (up : List ItemSet) (shared : ItemSet) (R : Rooting parents (get_or types t []) up shared) where
     Up : (a d : ℕ) → d < length parents → Decides (holds (get_or up d nothing) a) (Above W a d)
     Up a d h =
-        let u = R.above d a (omega (arith, R.few)) in (
+        let u = R.above d (omega (arith, R.few)) a in (
           λ e. reaches_above parents codes types R.few (top_marked parents F.top_item) (u.0 e),
           λ g. u.1 (above_reaches parents codes types F.up_item h g),
         )
@@ -146,12 +184,6 @@ module _ (parents : List ℕ) (codes : ℕ) (types : List (List State)) (t : ℕ
           λ q. (o d k a).1 ((u a).1 ((Up root a (above_item W F q.1 h)).1 q.0), (Up a d h).1 q.1),
         )
 
-  is_named : (all named : ItemSet) → Exactly all (λ s. s < length (get_or types t [])) → Exactly named (NamesIn (get_or types t []) all) → Exactly named (Named W t)
-  is_named all named a n d = (
-    λ h. let q = (n d).0 h in (q.0, q.1, q.2.1),
-    λ q. (n d).1 (q.0, q.1, ((a q.0).1 q.1, q.2)),
-  )
-
   module _ (few : length parents ≤ 64) (local : ItemSet) (locals : Exactly local (Local W t)) (children : List ItemSet)
       (all : (d : ℕ) → d < 64 → Exactly (get_or children d nothing) (ChildIn parents local d)) where
     is_child : (d : ℕ) → d < length parents → Exactly (get_or children d nothing) (LocalChild W t d)
@@ -173,10 +205,10 @@ module _ (parents : List ℕ) (codes : ℕ) (types : List (List State)) (t : ℕ
               }),
         )
 
-    is_leaf : (leaves : ItemSet) → length children ≡ 64
-        → Exactly leaves (λ d. (d < length children) × (holds local d ≡ true) × ((c : ℕ) → holds (get_or children d nothing) c ≡ false))
+    is_leaf : (leaves : ItemSet)
+        → Exactly leaves (λ d. (d < 64) × (holds local d ≡ true) × ((c : ℕ) → holds (get_or children d nothing) c ≡ false))
         → Exactly leaves (LocalLeaf W t)
-    is_leaf leaves long l d = (to, from)
+    is_leaf leaves l d = (to, from)
       where
         to : holds leaves d ≡ true → LocalLeaf W t d
         to e =
@@ -199,13 +231,13 @@ module _ (parents : List ℕ) (codes : ℕ) (types : List (List State)) (t : ℕ
 
     Arcs : (s m : ℕ) → Decides (holds (get_or arcs s nothing) m) (model.Arc W t s m)
     Arcs s m = (
-      λ e. arc_out parents codes types t four s m ((G.arcs_are s m).0 e),
-      λ a. (G.arcs_are s m).1 (arc_in parents codes types t four leads s m a),
+      λ e. arc_out parents codes types t four s m ((G.arcs_are s (omega (arith, joined_within arcs s m e, G.arcs_long)) m).0 e),
+      λ a. (G.arcs_are s (let i = a.0 in omega (arith, G.short)) m).1 (arc_in parents codes types t four leads s m a),
     )
 
     On : (s r : ℕ) → s < length (get_or types t []) → Decides (holds (get_or reached s nothing) r) (Way W t s r)
     On s r h =
-        let u = G.reached_are s r (omega (arith, G.short)) in (
+        let u = G.reached_are s (omega (arith, G.short)) r in (
           λ e. reaches_way parents codes types t four (u.0 e),
           λ w. u.1 (way_reaches parents codes types t four leads w),
         )
@@ -271,28 +303,28 @@ module _ (parents : List ℕ) (codes : ℕ) (types : List (List State)) (t : ℕ
       record {
         root = root;
         local = locals;
-        named = is_named M.all p.named M.all_is M.named_is;
-        leaves = is_leaf R.few p.local locals p.children M.children_are p.leaves M.children_long M.leaves_are;
+        named = M.named_is;
+        leaves = is_leaf R.few p.local locals p.children M.children_are p.leaves M.leaves_are;
         children = is_child R.few p.local locals p.children M.children_are;
         way_down = is_way_down M.up M.shared R p.root M.under p.way_down M.under_is M.way_down_is;
         unreachable = are;
         unlockable = is_unlockable M.arcs M.reached M.back M.ahead M.behind G p.unreachable M.unreachable_are p.unlockable M.unlockable_are;
       }
 
--- the plan of a type with these states in a workload over this tree
+-- the plan of a type with these states in a workload over this tree, where it was made of rows that are the same
 pub planned_for
-    : (parents : List ℕ) (states : List State) (p : Plan) → Made parents states p
+    : (parents qs : List ℕ) (states xs : List State) (p : Plan) → qs ≡ parents → xs ≡ states → Made qs xs p
     → (codes t : ℕ) (types : List (List State)) → HasType parents codes types t states → Planned (workload_of parents codes types) t p
-planned_for parents states p M codes t types H =
+planned_for parents qs states xs p e f M codes t types H =
     planned parents codes types t H.formed H.is_type
-    (subst (λ (xs : List State). (s : ℕ) → s < length xs → length (get_or xs s nowhere).arcs ≡ 4) (sym H.its_states) H.four) p
-    (subst (λ (xs : List State). Made parents xs p) (sym H.its_states) M)
+    (subst (λ (zs : List State). (s : ℕ) → s < length zs → length (get_or zs s nowhere).arcs ≡ 4) (sym H.its_states) H.four) p
+    (subst (λ (zs : List State). Made parents zs p) (f ∙ sym H.its_states) (subst (λ (ps : List ℕ). Made ps xs p) e M))
 
 -- and where no item is deepest there is no such workload
 pub none_for
-    : (parents : List ℕ) (states : List State) (up : List ItemSet) (shared : ItemSet) → Rooting parents states up shared
+    : (parents qs : List ℕ) (states xs : List State) (up : List ItemSet) (shared : ItemSet) → qs ≡ parents → xs ≡ states → Rooting qs xs up shared
     → ((a : ℕ) → a < 64 → Deepest up shared a → ⊥) → (codes t : ℕ) (types : List (List State)) → HasType parents codes types t states → ⊥
-none_for parents states up shared R never codes t types H =
+none_for parents qs states xs up shared e f R never codes t types H =
     has_deepest parents codes types t H.formed H.is_type
-    (subst (λ (xs : List State). (s : ℕ) → s < length xs → length (get_or xs s nowhere).arcs ≡ 4) (sym H.its_states) H.four) up shared
-    (subst (λ (xs : List State). Rooting parents xs up shared) (sym H.its_states) R) never
+    (subst (λ (zs : List State). (s : ℕ) → s < length zs → length (get_or zs s nowhere).arcs ≡ 4) (sym H.its_states) H.four) up shared
+    (subst (λ (zs : List State). Rooting parents zs up shared) (f ∙ sym H.its_states) (subst (λ (ps : List ℕ). Rooting ps xs up shared) e R)) never

@@ -1,5 +1,5 @@
 -- Loops over a row of sets, and the closure of a relation.
-use Rattle.std.proofs.Common.{◌≡◌, ℕ, ◌+◌, ◌<◌, ◌≤◌, ◌&&◌, ◌||◌, eqb, ◌≢◌, ◌⊎◌, List, length, get_or, set, sym, refl, ap, ◌∙◌, subst, inl, inr, arith, get_or-set_other, get_or-set_same}
+use Rattle.std.proofs.Common.{◌≡◌, ℕ, ◌+◌, ◌<◌, ◌≤◌, ◌&&◌, ◌||◌, eqb, ◌⊎◌, List, length, get_or, sym, refl, ap, ◌∙◌, subst, inl, inr, arith}
 use Rattle.std.proofs.lemmas.List.{get_or_past}
 use Rattle.std.proofs.lemmas.Bool.{cases_lt, cases_eq, both_ways, or_cases, or_left, or_right, and_parts, and_from, eqb-true, eq-eqb}
 use Rattle.itemset.proofs.Laws.{has_none}
@@ -12,31 +12,6 @@ pub record Come (P : ℕ → ItemSet → Type 0) (old new : List ItemSet) (i : �
   pub long : length new ≡ length old
   pub front : (s : ℕ) → s < i → P s (get_or new s nothing)
   pub back : (s : ℕ) → i ≤ s → get_or new s nothing ≡ get_or old s nothing
-
-pub come_none : (P : ℕ → ItemSet → Type 0) (old : List ItemSet) → Come P old old 0
-come_none P old = record { long = refl; front = λ s h. absurd (omega arith); back = λ s h. refl }
-
-pub come_more : (P : ℕ → ItemSet → Type 0) (old new : List ItemSet) (i : ℕ) (v : ItemSet) → i < length new → Come P old new i → P i v → Come P old (set new i v) (i + 1)
-come_more P old new i v h c p = record { long = simp lib.ListN.length-set c.long; front = front; back = back }
-  where
-    front : (s : ℕ) → s < i + 1 → P s (get_or (set new i v) s nothing)
-    front s l = elim (cases_eq s i) [
-      | inl e ↦ subst (λ (x : ℕ). P x (get_or (set new i v) x nothing)) (sym e) (subst (P i) (sym (get_or-set_same new i v nothing h)) p)
-      | inr ne ↦ subst (P s) (sym (get_or-set_other new i s v nothing ne)) (c.front s (omega arith))
-    ]
-
-    back : (s : ℕ) → i + 1 ≤ s → get_or (set new i v) s nothing ≡ get_or old s nothing
-    back s l = let ne : s ≢ i = omega arith in rw get_or-set_other (c.back s (omega arith))
-
--- nothing written at i
-pub come_kept : (P : ℕ → ItemSet → Type 0) (old new : List ItemSet) (i : ℕ) → Come P old new i → P i (get_or new i nothing) → Come P old new (i + 1)
-come_kept P old new i c p = record { long = c.long; front = front; back = λ s l. c.back s (omega arith) }
-  where
-    front : (s : ℕ) → s < i + 1 → P s (get_or new s nothing)
-    front s l = elim (cases_eq s i) [
-      | inl e ↦ subst (λ (x : ℕ). P x (get_or new x nothing)) (sym e) p
-      | inr ne ↦ c.front s (omega arith)
-    ]
 
 -- only a row that is there holds anything
 pub joined_within : (rows : List ItemSet) (s t : ℕ) → Joined rows s t → s < length rows

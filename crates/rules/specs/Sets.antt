@@ -1,7 +1,7 @@
 -- What sets and rows of sets say of the items and states of a job type.
 use Rattle.std.specs.Prelude.{◌≡◌, ℕ, ◌<◌, true, List, length, Decides, slice_index_or}
 use Rattle.itemset.specs.declared.ItemSet.{ItemSet}
-use Rattle.itemset.specs.Members.{holds}
+use Rattle.itemset.specs.Members.{holds, nothing}
 use Rattle.rules.specs.declared.state.State.{State}
 use Rattle.rules.specs.Reach.{Joined}
 use Rattle.rules.specs.Rules.{nowhere}
@@ -9,6 +9,10 @@ use Rattle.rules.specs.Rules.{nowhere}
 -- the set holds the numbers of which P holds, and no other
 abbrev pub Exactly : ItemSet → (ℕ → Type 0) → Type 0
 Exactly x P = (d : ℕ) → Decides (holds x d) (P d)
+
+-- each of the first n rows holds the numbers to which R relates it, and no other
+abbrev pub Rows : ℕ → List ItemSet → (ℕ → ℕ → Type 0) → Type 0
+Rows n rows R = (s : ℕ) → s < n → Exactly (slice_index_or rows s nothing) (R s)
 
 -- the item that the state s names
 abbrev pub item_at : List State → ℕ → ℕ

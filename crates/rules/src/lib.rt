@@ -3,6 +3,7 @@
 
 mod closure;
 mod local;
+mod places;
 pub mod plan;
 pub mod state;
 pub mod tree;

@@ -3,15 +3,14 @@ ghost use Rattle.std.specs.Prelude.{ℕ, ◌<◌, length, Decides, MatchOption};
 ghost use Rattle.rules.specs.Plans.{NoType, PlanFor};
 ghost use Rattle.rules.specs.Sets.{item_at};
 
-use crate::closure::{column, columns};
-use crate::local::{childless_in, children_in, common_above, deepest_of, each_within, some_above};
 use crate::state::State;
-use crate::tree::{MOST_ITEMS, above};
-use crate::unlocking::{each_left_behind, each_named, each_unnamed, named_in};
-use crate::ways::{MOST_STATES, arcs_of, reached_from};
+use crate::tree::Tree;
+use crate::unlocking::each_left_behind;
+use crate::ways::Graph;
 use itemset::ItemSet;
 
 // The local lock tree of one job type, and the sets of each of its states.
+// Each array is made whole from others and looked up at one index: a struct for each item or state would need another pass.
 #[derive(Clone, Copy)]
 pub struct Plan {
     // the local root
@@ -33,12 +32,7 @@ pub struct Plan {
 fn all_name_below(states: &[State], n: usize) -> bool
     ensures { Decides result ((s : ℕ) → s < length states.now → item_at states.now s < n) }
 {
-    for s in 0..states.len() {
-        if states[s].item as usize >= n {
-            return false;
-        }
-    }
-    true
+    states.iter().all(|state| (state.item as usize) < n)
 }
 
 // The plan of a job type with these states, over the tree that the parent bytes make;
@@ -46,26 +40,28 @@ fn all_name_below(states: &[State], n: usize) -> bool
 pub fn plan_of(parents: &[u8], states: &[State]) -> Option<Plan>
     ensures { MatchOption result (NoType parents.now states.now) (PlanFor parents.now states.now) }
 {
-    if parents.len() > MOST_ITEMS || states.len() > MOST_STATES {
-        return None;
-    }
+    let tree = Tree::of(parents)?;
+    let graph = Graph::of(states)?;
     if !all_name_below(states, parents.len()) {
         return None;
     }
-    let up = above(parents);
-    let root = deepest_of(&up, common_above(&up, states))?;
-    let under = column(&up, root);
-    let local = under.intersection(some_above(&up, states));
-    let children = children_in(parents, local);
-    let leaves = childless_in(&children, local);
-    let way_down = each_within(&up, under);
-    let named = named_in(states, ItemSet::below(states.len() as u8));
-    let arcs = arcs_of(states);
-    let reached = reached_from(states);
-    let ahead = each_named(states, &reached);
-    let behind = each_named(states, &columns(&reached));
-    let unreachable = each_unnamed(&ahead, parents.len() as u8);
-    let unlockable = each_left_behind(&arcs, &unreachable, &behind);
+    let up = tree.above();
+    let named = graph.named_in(ItemSet::below(32));
+    let root = up.deepest_of(up.common_above(named))?;
+    let under = up.column(root);
+    let local = under.intersection(up.some_above(named));
+    let children = tree.children_in(local);
+    let leaves = children.childless_in(local);
+    // The checker follows a row of a field into the plan only through a variable.
+    let children = children.rows;
+    let way_down = up.within(under).rows;
+    let arcs = graph.arcs();
+    let reached = graph.reached();
+    let ahead = graph.each_named(&reached);
+    let behind = graph.each_named(&reached.converse());
+    let unreachable = ahead.lacking(tree.items());
+    let unlockable = each_left_behind(&arcs, &unreachable, &behind).rows;
+    let unreachable = unreachable.rows;
     Some(Plan {
         root,
         local,

@@ -1,104 +1,100 @@
 // The tree of items, as a row of parent bytes: each names the item right above, and 255 marks the root.
-ghost use Rattle.std.specs.Prelude.{◌≡◌, ℕ, ◌<◌, ◌≤◌, true, length, Decides, MatchOption, slice_index, slice_index_or};
-ghost use Rattle.itemset.specs.Members.{holds, nothing};
+ghost use Rattle.std.specs.Prelude.{◌≡◌, ◌<◌, ◌≤◌, length, Decides, MatchOption, slice_index};
 ghost use Rattle.rules.specs.Reach.{Reaches};
 ghost use Rattle.rules.specs.Rules.{AllRooted, BreaksAt, Parent, RightParent};
+ghost use Rattle.rules.specs.Sets.{Exactly, Rows};
 
-use crate::closure::close;
+use crate::closure::Relation;
+use crate::places::{meet, places};
 use itemset::ItemSet;
 
 // The byte of the item that has no parent.
 pub const ROOT_MARK: u8 = 255;
 
 // As many items as a set can hold.
-pub(crate) const MOST_ITEMS: usize = 64;
+const MOST_ITEMS: usize = 64;
 
-// The parent of an item, if its byte names one.
-fn parent_set(parent: u8, n: u8) -> ItemSet
-    requires { n ≤ 64 }
-    ensures { (m : ℕ) → Decides (holds result m) ((parent < n) × (parent ≡ m)) }
-{
-    let mut one = ItemSet::empty();
-    if parent < n {
-        one.insert(parent);
-    }
-    one
+// The parent bytes of at most 64 items.
+#[derive(Clone, Copy)]
+pub(crate) struct Tree<'a> {
+    pub(crate) parents: &'a [u8],
+    ghost few: { length parents.now ≤ 64 },
 }
 
-// For each item itself and the items above it.
-pub(crate) fn above(parents: &[u8]) -> [ItemSet; 64]
-    requires { length parents.now ≤ 64 }
-    ensures { (i r : ℕ) → i < 64 → Decides (holds (slice_index_or result i nothing) r) (Reaches (Parent parents.now) i r) }
-{
-    let n = parents.len() as u8;
-    let mut rows = [ItemSet::empty(); 64];
-    for i in 0..parents.len() {
-        rows[i] = parent_set(parents[i], n);
-    }
-    close(&mut rows);
-    rows
-}
-
-// Whether an item below i has the root's mark.
-fn marked_before(parents: &[u8], i: usize) -> bool
-    requires { i ≤ length parents.now }
-    ensures { Decides result ((j : ℕ) × (j < i) × (slice_index parents.now j ≡ 255)) }
-{
-    for j in 0..i {
-        if parents[j] == ROOT_MARK {
-            return true;
+impl<'a> Tree<'a> {
+    // Nothing where there are more items than a set can hold.
+    pub(crate) fn of(parents: &'a [u8]) -> Option<Tree<'a>>
+        ensures { MatchOption result (64 < length parents.now) (λ tree. tree.parents.now ≡ parents.now) }
+    {
+        if parents.len() > MOST_ITEMS {
+            return None;
         }
+        Some(Tree { parents })
     }
-    false
-}
 
-// Whether an item in the row has the root's mark.
-fn meets_root(parents: &[u8], row: ItemSet) -> bool
-    requires { length parents.now ≤ 64 }
-    ensures { Decides result ((q : ℕ) × (q < length parents.now) × (holds row q ≡ true) × (slice_index parents.now q ≡ 255)) }
-{
-    for q in 0..parents.len() {
-        if parents[q] == ROOT_MARK && row.contains(q as u8) {
-            return true;
+    // All items.
+    pub(crate) fn items(&self) -> ItemSet
+        ensures { Exactly result (λ d. d < length self.now.parents.now) }
+    {
+        ItemSet::below(self.parents.len() as u8)
+    }
+
+    // The parent of item i, if there is such an item and its byte names one.
+    fn parent_of(&self, i: usize) -> ItemSet
+        ensures { Exactly result (Parent self.now.parents.now i) }
+    {
+        let mut parent = ItemSet::empty();
+        if let Some(&p) = self.parents.get(i)
+            && (p as usize) < self.parents.len()
+        {
+            parent.insert(p);
         }
+        parent
     }
-    false
-}
 
-// Whether the byte of item i names an item, or marks the root and no lower item's does.
-fn right_byte(parents: &[u8], i: usize) -> bool
-    requires { i < length parents.now }
-    ensures { Decides result (RightParent parents.now i) }
-{
-    if (parents[i] as usize) < parents.len() {
-        return true;
+    // For each item itself and the items above it.
+    pub(crate) fn above(&self) -> Relation<64>
+        ensures { Rows 64 result.rows (Reaches (Parent self.now.parents.now)) }
+    {
+        let mut above = Relation::from_fn(|i| self.parent_of(i));
+        above.close();
+        above
     }
-    parents[i] == ROOT_MARK && !marked_before(parents, i)
-}
 
-// The lowest item whose byte is wrong or whose way up never meets the root's mark.
-fn lowest_unrooted(parents: &[u8]) -> Option<usize>
-    requires { length parents.now ≤ 64 }
-    ensures { MatchOption result (AllRooted parents.now) (BreaksAt parents.now) }
-{
-    let rows = above(parents);
-    for i in 0..parents.len() {
-        let right = right_byte(parents, i);
-        let rooted = meets_root(parents, rows[i]);
-        if !right || !rooted {
-            return Some(i);
-        }
+    // The items that have the root's mark.
+    fn marked(&self) -> ItemSet
+        ensures { Exactly result (λ j. (j < length self.now.parents.now) × (slice_index self.now.parents.now j ≡ 255)) }
+    {
+        places(self.parents, |&p| p == ROOT_MARK)
     }
-    None
+
+    // Whether the byte of item i names an item, or marks the root and no lower item's does.
+    fn right_byte(&self, i: usize) -> bool
+        requires { i < length self.now.parents.now }
+        ensures { Decides result (RightParent self.now.parents.now i) }
+    {
+        let p = self.parents[i];
+        (p as usize) < self.parents.len()
+            || (p == ROOT_MARK && !self.parents[..i].contains(&ROOT_MARK))
+    }
+
+    // The lowest item whose byte is wrong or whose way up never meets the root's mark.
+    fn lowest_unrooted(&self) -> Option<usize>
+        ensures { MatchOption result (AllRooted self.now.parents.now) (BreaksAt self.now.parents.now) }
+    {
+        let above = self.above();
+        let marked = self.marked();
+        (0..self.parents.len()).find(|&i| !self.right_byte(i) || !meet(above.rows[i], marked))
+    }
 }
 
 // The item that breaks the tree: the lowest that is not rooted, or the first one past the limit;
-// nothing where the bytes make a tree.
+// nothing where the bytes make a tree. That states hang together is told alike, but over definitions of its own.
 pub fn first_unrooted(parents: &[u8]) -> Option<usize>
     ensures { MatchOption result (AllRooted parents.now) (BreaksAt parents.now) }
 {
-    if parents.len() > MOST_ITEMS {
+    let Some(tree) = Tree::of(parents) else {
         return Some(MOST_ITEMS);
-    }
-    lowest_unrooted(parents)
+    };
+    tree.lowest_unrooted()
 }

@@ -1,82 +1,92 @@
 // What can be reached from a state of a job type.
-ghost use Rattle.std.specs.Prelude.{◌≡◌, ℕ, ◌<◌, ◌≤◌, true, length, Decides, MatchOption, slice_index_or};
-ghost use Rattle.itemset.specs.Members.{holds, nothing};
+ghost use Rattle.std.specs.Prelude.{◌≡◌, ◌<◌, ◌≤◌, length, MatchOption};
 ghost use Rattle.rules.specs.Reach.{Reaches};
 ghost use Rattle.rules.specs.Rules.{AllPlaced, Arc, Leads, StraysAt, Terminal};
+ghost use Rattle.rules.specs.Sets.{Exactly, Rows};
 
-use crate::closure::close;
+use crate::closure::Relation;
+use crate::places::{meet, places};
 use crate::state::State;
 use itemset::ItemSet;
 
 // As many states as a job type may have.
-pub(crate) const MOST_STATES: usize = 32;
+const MOST_STATES: usize = 32;
+
+// The states of a job type. It is a type beside `Tree`: one for both would lose the names of what they hold.
+#[derive(Clone, Copy)]
+pub(crate) struct Graph<'a> {
+    pub(crate) states: &'a [State],
+    ghost few: { length states.now ≤ 32 },
+}
 
 // The states below `count` that the arcs of a state lead to.
-fn next_states(state: &State, count: u8) -> ItemSet
+fn next_states(state: &State, count: usize) -> ItemSet
     requires { count ≤ 32 }
-    ensures { (m : ℕ) → Decides (holds result m) ((m < count) × Leads state.now m) }
+    ensures { Exactly result (λ m. (m < count) × Leads state.now m) }
 {
     let mut next = ItemSet::empty();
-    for k in 0..4u8 {
-        let arc = state.arcs[k as usize];
-        if k < state.arc_count && arc < count {
+    for (k, &arc) in state.arcs.iter().enumerate() {
+        if k < state.arc_count as usize && (arc as usize) < count {
             next.insert(arc);
         }
     }
     next
 }
 
-// For each state the states to which it has arcs.
-pub(crate) fn arcs_of(states: &[State]) -> [ItemSet; 32]
-    requires { length states.now ≤ 32 }
-    ensures { (s m : ℕ) → Decides (holds (slice_index_or result s nothing) m) (Arc states.now s m) }
-{
-    let count = states.len() as u8;
-    let mut rows = [ItemSet::empty(); 32];
-    for s in 0..states.len() {
-        rows[s] = next_states(&states[s], count);
+impl<'a> Graph<'a> {
+    // Nothing where there are more states than a job type may have.
+    pub(crate) fn of(states: &'a [State]) -> Option<Graph<'a>>
+        ensures { MatchOption result (32 < length states.now) (λ graph. graph.states.now ≡ states.now) }
+    {
+        if states.len() > MOST_STATES {
+            return None;
+        }
+        Some(Graph { states })
     }
-    rows
-}
 
-// For each state the states that can be reached from it.
-pub(crate) fn reached_from(states: &[State]) -> [ItemSet; 32]
-    requires { length states.now ≤ 32 }
-    ensures { (s t : ℕ) → s < 32 → Decides (holds (slice_index_or result s nothing) t) (Reaches (Arc states.now) s t) }
-{
-    let mut rows = arcs_of(states);
-    close(&mut rows);
-    rows
-}
-
-// Whether some state in the row is terminal.
-fn meets_end(states: &[State], row: ItemSet) -> bool
-    requires { length states.now ≤ 32 }
-    ensures { Decides result ((e : ℕ) × (e < length states.now) × (holds row e ≡ true) × Terminal states.now e) }
-{
-    for e in 0..states.len() {
-        if states[e].arc_count == 0 && row.contains(e as u8) {
-            return true;
+    // The states to which state s has arcs; none where there is no such state.
+    fn next(&self, s: usize) -> ItemSet
+        ensures { Exactly result (Arc self.now.states.now s) }
+    {
+        match self.states.get(s) {
+            Some(state) => next_states(state, self.states.len()),
+            None => ItemSet::empty(),
         }
     }
-    false
-}
 
-// The lowest state that is not reached from state 0 or reaches no terminal state.
-fn lowest_stray(states: &[State]) -> Option<usize>
-    requires { length states.now ≤ 32 }
-    ensures { MatchOption result (AllPlaced states.now) (StraysAt states.now) }
-{
-    let rows = reached_from(states);
-    let from_start = rows[0];
-    for s in 0..states.len() {
-        let reached = from_start.contains(s as u8);
-        let ends = meets_end(states, rows[s]);
-        if !reached || !ends {
-            return Some(s);
-        }
+    // For each state the states to which it has arcs.
+    pub(crate) fn arcs(&self) -> Relation<32>
+        ensures { Rows 32 result.rows (Arc self.now.states.now) }
+    {
+        Relation::from_fn(|s| self.next(s))
     }
-    None
+
+    // For each state the states that can be reached from it.
+    pub(crate) fn reached(&self) -> Relation<32>
+        ensures { Rows 32 result.rows (Reaches (Arc self.now.states.now)) }
+    {
+        let mut reached = self.arcs();
+        reached.close();
+        reached
+    }
+
+    // The terminal states.
+    fn ends(&self) -> ItemSet
+        ensures { Exactly result (λ e. (e < length self.now.states.now) × Terminal self.now.states.now e) }
+    {
+        places(self.states, |state| state.arc_count == 0)
+    }
+
+    // The lowest state that is not reached from state 0 or reaches no terminal state.
+    fn lowest_stray(&self) -> Option<usize>
+        ensures { MatchOption result (AllPlaced self.now.states.now) (StraysAt self.now.states.now) }
+    {
+        let reached = self.reached();
+        let from_start = reached.rows[0];
+        let ends = self.ends();
+        (0..self.states.len()).find(|&s| !from_start.contains(s as u8)
+            || !meet(reached.rows[s], ends))
+    }
 }
 
 // The state that strays: the lowest that is not placed, or the first one past the limit;
@@ -84,8 +94,8 @@ fn lowest_stray(states: &[State]) -> Option<usize>
 pub fn first_stray(states: &[State]) -> Option<usize>
     ensures { MatchOption result (AllPlaced states.now) (StraysAt states.now) }
 {
-    if states.len() > MOST_STATES {
+    let Some(graph) = Graph::of(states) else {
         return Some(MOST_STATES);
-    }
-    lowest_stray(states)
+    };
+    graph.lowest_stray()
 }

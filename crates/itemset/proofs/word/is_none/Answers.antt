@@ -11,6 +11,6 @@ returns c =
       λ e k. ap (λ (x : ℕ). has x k) (eqb-true n 0 e) ∙ has_none k,
       λ f. elim (cases_eq n 0) [
         | inl z ↦ eq-eqb n 0 z
-        | inr z ↦ absurd (let l = lowest_trailing 64 n h (omega arith) in both_ways _ (f _) l.member)
+        | inr z ↦ absurd (let l = lowest_trailing n (omega arith) h in both_ways _ (f _) l.member)
       ],
     )

@@ -6,4 +6,4 @@ pub returns-then-d-ge64 : goal.returns-then-d-ge64
 returns-then-d-ge64 c = has_unremoved c.args.word c.args.d (omega arith) (omega arith)
 
 pub returns : goal.returns
-returns c = has_removed c.args.word c.args.d (omega arith)
+returns c = has_removed c.args.word c.args.d (omega arith) (omega arith)

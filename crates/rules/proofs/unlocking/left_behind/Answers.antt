@@ -7,10 +7,8 @@ use Rattle.rules.proofs.unlocking.left_behind.Goals as goal
 pub returns : goal.returns
 returns c =
     let arcs = c.args.arcs.now in
-    let unreachable = c.args.unreachable.now in
     let s = c.args.s in
-    let behind = c.args.behind.now in
-    let row = get_or unreachable s nothing in
+    let row = get_or c.args.unreachable.now.rows s nothing in
     let in_both = both _ _ c.loop-m.before row c.intersection.result c.loop-m.invariant.1 (holding row) c.intersection.ensures in
     let left = lacking _ c.intersection.result c.loop-m.already c.difference.result in_both c.difference.ensures in
     λ d. (
@@ -19,13 +17,13 @@ returns c =
           let b = q.0.0 in
           record {
             here = q.0.1;
-            not_before = λ m a u. q.1 ((c.loop-m.invariant.0 d).1 (m, omega (arith, joined_within arcs m s a), (a, u)));
+            not_before = λ m a u. q.1 ((c.loop-m.invariant.0 d).1 (m, omega (arith, joined_within arcs.rows m s a, arcs.long), (a, u)));
             named_before = (b.0, b.2.0, b.2.1);
           },
       λ h.
           let b = h.named_before in
           (left d).1 (
-            ((b.0, omega (arith, joined_within arcs b.0 s b.1), (b.1, b.2)), h.here),
+            ((b.0, omega (arith, joined_within arcs.rows b.0 s b.1, arcs.long), (b.1, b.2)), h.here),
             λ e. let q = (c.loop-m.invariant.0 d).0 e in h.not_before q.0 q.2.0 q.2.1,
           ),
     )

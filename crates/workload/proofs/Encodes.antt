@@ -1,5 +1,5 @@
 -- What is read is what was written, part by part.
-use Rattle.std.proofs.Common.{◌≡◌, ℕ, zero, suc, ◌+◌, ◌*◌, ◌/◌, ◌%◌, ◌^◌, ◌<◌, ◌≤◌, List, [], ◌∷◌, ◌++◌, length, get_or, take, drop, ℤ, Ok, sym, refl, ap, ◌∙◌, subst, append_assoc, arith, length-append, to_z-of_z, w32, Fits, SFits, to_z, of_z}
+use Rattle.std.proofs.Common.{◌≡◌, ℕ, zero, suc, ◌+◌, ◌*◌, ◌/◌, ◌%◌, ◌^◌, ◌<◌, ◌≤◌, List, [], ◌∷◌, ◌++◌, length, get_or, take, drop, ℤ, Ok, sym, refl, ap, ◌∙◌, subst, append_assoc, arith, length-append, to_z-of_z, drop-cons, w32, Fits, SFits, to_z, of_z}
 use native.Mathlib.Nat.{div-div-eq-div-mul}
 use mir.Facts.{of_z-to_z, sfits_to_z, Fits-of_z}
 use Rattle.std.proofs.lemmas.List.{take-append-drop, take_at, drop_at, get_or-append-add, length-take-le}
@@ -27,6 +27,16 @@ bytes_rest bs xs rest e h i =
     let b = ap (λ (l : List ℕ). get_or l (length xs + i) 0) e in
     omega (arith, h (length xs + i))
 
+-- n bytes from place i on
+abbrev pub bytes_at : ℕ → ℕ → List ℕ → List ℕ
+bytes_at i zero bs = []
+bytes_at i (suc n) bs = get_or bs i 0 ∷ bytes_at (suc i) n bs
+
+pub fronted : (n i : ℕ) (bs : List ℕ) → i + n ≤ length bs → drop i bs ≡ bytes_at i n bs ++ drop (i + n) bs
+fronted zero i bs h = ap (λ (k : ℕ). drop k bs) (omega arith)
+fronted (suc n) i bs h =
+    drop-cons bs i 0 (omega arith) ∙ ap (λ (xs : List ℕ). get_or bs i 0 ∷ xs) (fronted n (suc i) bs (omega arith) ∙ ap (λ (k : ℕ). bytes_at (suc i) n bs ++ drop k bs) (omega arith))
+
 -- ---- fixed bytes and counts
 
 pub sign_sound : (sign : List ℕ) (end : ℕ) (bs x rest : List ℕ) → Sign sign end bs (Ok (x, rest)) → bs ≡ sign ++ rest
@@ -39,17 +49,13 @@ pub sign_complete : (sign : List ℕ) (end : ℕ) (rest : List ℕ) → Sign sig
 sign_complete sign end rest =
     right (simp length-append (omega arith)) (take_at sign rest (length sign) refl) (ap (λ (l : List ℕ). Ok (sign, l)) (sym (drop_at sign rest (length sign) refl)))
 
-uncons : (bs : List ℕ) → 1 ≤ length bs → bs ≡ get_or bs 0 0 ∷ drop 1 bs
-uncons [] h = absurd (omega arith)
-uncons (b ∷ bs) h = refl
-
 pub range_sound : (high end : ℕ) (bs : List ℕ) (n : ℕ) (rest : List ℕ) → Range high end bs (Ok (n, rest)) → (bs ≡ n ∷ rest) × (1 ≤ n) × (n ≤ high)
 range_sound high end bs n rest (reads.Range.missing h e) = absurd (ok_err (n, rest) (Missing end) e)
 range_sound high end bs n rest (outside h k e) = absurd (ok_err (n, rest) _ e)
 range_sound high end bs n rest (inside h l m e) =
     let v = value_same n (get_or bs 0 0) rest (drop 1 bs) e in
     let r = rest_same n (get_or bs 0 0) rest (drop 1 bs) e in
-    let u = uncons bs h in
+    let u = fronted 1 0 bs h in
     (cc, omega arith, omega arith)
 
 pub range_complete : (high end n : ℕ) (rest : List ℕ) → 1 ≤ n → n ≤ high → Range high end (n ∷ rest) (Ok (n, rest))
@@ -82,20 +88,6 @@ four_bytes : (a b c d n : ℕ) → a < 256 → b < 256 → c < 256 → d < 256 �
     → (n / 16777216 % 256 ≡ a) × (n / 65536 % 256 ≡ b) × (n / 256 % 256 ≡ c) × (n % 256 ≡ d) × (n < 2 ^ 32)
 four_bytes a b c d n ha hb hc hd e = (omega arith, omega arith, omega arith, omega arith, omega arith)
 
-eleven : (bs : List ℕ) → 11 ≤ length bs → bs ≡ get_or bs 0 0 ∷ get_or bs 1 0 ∷ get_or bs 2 0 ∷ get_or bs 3 0 ∷ get_or bs 4 0 ∷ get_or bs 5 0 ∷ get_or bs 6 0 ∷ get_or bs 7 0 ∷ get_or bs 8 0 ∷ get_or bs 9 0 ∷ get_or bs 10 0 ∷ drop 11 bs
-eleven ([]) h = absurd (omega arith)
-eleven (b0 ∷ []) h = absurd (omega arith)
-eleven (b0 ∷ b1 ∷ []) h = absurd (omega arith)
-eleven (b0 ∷ b1 ∷ b2 ∷ []) h = absurd (omega arith)
-eleven (b0 ∷ b1 ∷ b2 ∷ b3 ∷ []) h = absurd (omega arith)
-eleven (b0 ∷ b1 ∷ b2 ∷ b3 ∷ b4 ∷ []) h = absurd (omega arith)
-eleven (b0 ∷ b1 ∷ b2 ∷ b3 ∷ b4 ∷ b5 ∷ []) h = absurd (omega arith)
-eleven (b0 ∷ b1 ∷ b2 ∷ b3 ∷ b4 ∷ b5 ∷ b6 ∷ []) h = absurd (omega arith)
-eleven (b0 ∷ b1 ∷ b2 ∷ b3 ∷ b4 ∷ b5 ∷ b6 ∷ b7 ∷ []) h = absurd (omega arith)
-eleven (b0 ∷ b1 ∷ b2 ∷ b3 ∷ b4 ∷ b5 ∷ b6 ∷ b7 ∷ b8 ∷ []) h = absurd (omega arith)
-eleven (b0 ∷ b1 ∷ b2 ∷ b3 ∷ b4 ∷ b5 ∷ b6 ∷ b7 ∷ b8 ∷ b9 ∷ []) h = absurd (omega arith)
-eleven (b0 ∷ b1 ∷ b2 ∷ b3 ∷ b4 ∷ b5 ∷ b6 ∷ b7 ∷ b8 ∷ b9 ∷ b10 ∷ bs) h = refl
-
 -- a state that eleven bytes hold has these bytes
 state_bytes : (bs : List ℕ) → 11 ≤ length bs → Bytes bs → (bs ≡ record_bytes (state_of bs) ++ drop 11 bs) × SFits w32 (state_of bs).operand
 state_bytes bs l h =
@@ -111,7 +103,7 @@ state_bytes bs l h =
     let q1 = ap (λ (x : ℕ). x / 65536 % 256) o ∙ q.1 in
     let q2 = ap (λ (x : ℕ). x / 256 % 256) o ∙ q.2 in
     let q3 = ap (λ (x : ℕ). x % 256) o ∙ q.3 in
-    let e = eleven bs l in
+    let e = fronted 11 0 bs l in
     (cc, sfits_to_z f)
 
 pub record_sound

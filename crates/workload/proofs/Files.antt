@@ -11,17 +11,11 @@ use Rattle.workload.specs.Encoding.{mark, version, pair, type_bytes, note_bytes,
 use Rattle.rules.specs.Lawful.{Lawful}
 use Rattle.rules.proofs.Fine.{FineType}
 use Rattle.rules.proofs.Formed.{fine_of, lawful_from, rooted_of}
-use Rattle.workload.specs.Files.{Surveyed}
 use Rattle.workload.specs.Reads as reads
 use Rattle.workload.specs.Reads.{Answer, Part, Then, stops, goes, Several, Sign, Range, Parents, TypePart, Note, note_length, Header, File, Contents, Accepted, Refused, long, short, trailing, whole}
 use Rattle.workload.proofs.Parts.{ok_err, value_same, rest_same, then_open}
-use Rattle.workload.proofs.Once.{file_only, several_only, type_only}
-use Rattle.workload.proofs.Encodes.{Bytes, bytes_rest, sign_sound, sign_complete, range_sound, range_complete, parents_sound, parents_complete, several_sound, several_complete, type_sound, type_complete}
-
-two : (bs : List ℕ) → 2 ≤ length bs → bs ≡ get_or bs 0 0 ∷ get_or bs 1 0 ∷ drop 2 bs
-two [] h = absurd (omega arith)
-two (a ∷ []) h = absurd (omega arith)
-two (a ∷ b ∷ bs) h = refl
+use Rattle.workload.proofs.Once.{file_only}
+use Rattle.workload.proofs.Encodes.{Bytes, bytes_rest, fronted, sign_sound, sign_complete, range_sound, range_complete, parents_sound, parents_complete, several_sound, several_complete, type_sound, type_complete}
 
 note_sound : (end : ℕ) (bs note rest : List ℕ) → Bytes bs → Note end bs (Ok (note, rest)) → (bs ≡ note_bytes note) × (rest ≡ []) × (length note ≤ 1000)
 note_sound end bs note rest h (reads.Note.missing l e) = absurd (ok_err (note, rest) (Missing end) e)
@@ -30,7 +24,7 @@ note_sound end bs note rest h (short l m n e) = absurd (ok_err (note, rest) _ e)
 note_sound end bs note rest h (trailing l m n e) = absurd (ok_err (note, rest) _ e)
 note_sound end bs note rest h (whole l m e) =
     let v = value_same note (drop 2 bs) rest [] e in
-    let t = two bs (omega arith) in
+    let t = fronted 2 0 bs (omega arith) in
     let n : length note ≡ get_or bs 0 0 * 256 + get_or bs 1 0 = omega (arith, ap length v, length-drop 2 bs) in
     let a : length note / 256 % 256 ≡ get_or bs 0 0 = omega (arith, h 0, h 1) in
     let b : length note % 256 ≡ get_or bs 1 0 = omega (arith, h 0, h 1) in
@@ -132,34 +126,6 @@ note_dropped bs front note e =
     let n = ap length e ∙ length-append front note in
     let m : length front ≡ length bs - length note = omega arith in
     (omega arith, ap (λ (y : List ℕ). drop (length bs - length note) y) e ∙ drop_at front note (length bs - length note) m)
-
--- the parts of a file that was taken apart make it up
-pub surveyed_accepted
-    : (bs : List ℕ) (h : Sizes) (ps types note : List ℕ) → Bytes bs → (v : Surveyed bs h ps types note)
-    → Accepted bs (record { parents = ps; codes = h.codes; types = v.1; note = note })
-surveyed_accepted bs h ps types note b v =
-    file_sound (length bs) bs (record { parents = ps; codes = h.codes; types = v.1; note = note }) [] b
-    (goes h v.0 v.3 (goes ps types v.4 (goes v.1 v.2 v.5 (goes note [] v.6 refl))))
-
--- so do those that were read a second time
-pub loaded_accepted
-    : (bs : List ℕ) (h : Sizes) (ps types note : List ℕ) → Bytes bs → Surveyed bs h ps types note → (us : List (List State)) (rest qs : List ℕ)
-    → Several (TypePart h.items h.codes (length bs)) h.types types (Ok (us, rest)) → qs ≡ ps
-    → Accepted bs (record { parents = qs; codes = h.codes; types = us; note = note })
-loaded_accepted bs h ps types note b v us rest qs t e =
-    let P = TypePart h.items h.codes (length bs) in
-    let o = several_only P (type_only h.items h.codes (length bs)) h.types types (Ok (us, rest)) (Ok (v.1, v.2)) t v.5 in
-    let r = subst (λ (l : List ℕ). Several P h.types types (Ok (us, l))) (rest_same us v.1 rest v.2 o) t in
-    subst (λ (l : List ℕ). Accepted bs (record { parents = l; codes = h.codes; types = us; note = note })) (sym e)
-    (surveyed_accepted bs h ps types note b (v.0, us, v.2, v.3, v.4, r, v.6))
-
--- a second reading of the types meets no fault
-pub loads_without_fault
-    : (bs : List ℕ) (h : Sizes) (ps types note : List ℕ) → Surveyed bs h ps types note → (f : Fault)
-    → Several (TypePart h.items h.codes (length bs)) h.types types (Err f) → ⊥
-loads_without_fault bs h ps types note v f e =
-    ok_err (v.1, v.2) f
-    (several_only (TypePart h.items h.codes (length bs)) (type_only h.items h.codes (length bs)) h.types types (Ok (v.1, v.2)) (Err f) v.5 e)
 
 -- the note of an accepted file stands at its end
 pub note_spans : (bs : List ℕ) (x : Contents) → Accepted bs x → (length x.note ≤ length bs) × (drop (length bs - length x.note) bs ≡ x.note)

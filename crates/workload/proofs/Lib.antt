@@ -2,7 +2,6 @@ pub mod Lists
 pub mod Parts
 pub mod Once
 pub mod Ranges
-pub mod Reading
 pub mod Encodes
 pub mod Files
 pub mod Cuts

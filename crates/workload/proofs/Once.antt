@@ -1,19 +1,19 @@
 -- No bytes have two answers.
-use Rattle.std.proofs.Common.{◌≡◌, ℕ, zero, suc, ◌+◌, ◌-◌, ◌*◌, List, [], ◌∷◌, length, take, Ok, Err, sym, ap, ◌∙◌, subst, inl, inr, arith}
-use Rattle.std.proofs.lemmas.Bool.{cases_lt}
+use Rattle.std.proofs.Common.{◌≡◌, ℕ, zero, suc, ◌+◌, ◌-◌, ◌*◌, ◌≤◌, List, [], ◌∷◌, length, take, drop, cond, ltb, Ok, Err, sym, ap, ◌∙◌, subst, inl, inr, arith}
+use Rattle.std.proofs.lemmas.Bool.{cases_lt, lt-ltb, le-ltb}
 use Rattle.workload.specs.declared.fault.Fault.{Fault}
-use Rattle.workload.specs.declared.fault.Fault.TheVariants.{Record, Tree, Stray}
+use Rattle.workload.specs.declared.fault.Fault.TheVariants.{Missing, Record, Tail, Tree, Stray}
 use Rattle.rules.specs.declared.state.State.{State}
 use Rattle.workload.specs.Encoding.{mark, version}
 use Rattle.rules.specs.Rules.{Lowest, Placed, Rooted}
 use Rattle.workload.specs.Reads as reads
-use Rattle.workload.specs.Reads.{Answer, Part, Done, Then, stops, goes, Several, Only, Sign, Range, Parents, StateRecord, Ways, TypePart, Note, Header, File, Contents, right, other, inside, outside, broken, tree, stray, joined, long, short, trailing, whole, wrong, sound}
+use Rattle.workload.specs.Reads.{Answer, Part, Done, Then, stops, goes, Several, Only, Sign, Range, Parents, StateRecord, Ways, TypePart, Note, note_length, Header, File, Contents, right, other, inside, outside, broken, tree, stray, joined, long, short, trailing, whole, wrong, sound}
 use Rattle.workload.proofs.Parts.{same_ok, same_err, ok_err}
 
-pub done_only : {X : Type 0} (x : X) → Only (Done x)
+done_only : {X : Type 0} (x : X) → Only (Done x)
 done_only x bs a b p q = p ∙ sym q
 
-pub then_only : {X Y : Type 0} (P : Part X) (Q : X → Part Y) → Only P → ((x : X) → Only (Q x)) → Only (Then P Q)
+then_only : {X Y : Type 0} (P : Part X) (Q : X → Part Y) → Only P → ((x : X) → Only (Q x)) → Only (Then P Q)
 then_only P Q op oq bs a b (stops f p d) (stops g q e) = d ∙ ap (λ (h : Fault). Err h) (same_err f g (op bs (Err f) (Err g) p q)) ∙ sym e
 then_only P Q op oq bs a b (stops f p d) (goes x r q e) = absurd (ok_err (x, r) f (op bs (Ok (x, r)) (Err f) q p))
 then_only P Q op oq bs a b (goes x r p d) (stops g q e) = absurd (ok_err (x, r) g (op bs (Ok (x, r)) (Err g) p q))
@@ -21,7 +21,7 @@ then_only {X} P Q op oq bs a b (goes x r p d) (goes y s q e) =
     let u = op bs (Ok (x, r)) (Ok (y, s)) p q in
     oq x r a b d (subst (λ (z : X × List ℕ). Q z.0 z.1 b) (sym (same_ok (x, r) (y, s) u)) e)
 
-pub several_only : {X : Type 0} (P : Part X) → Only P → (k : ℕ) → Only (Several P k)
+several_only : {X : Type 0} (P : Part X) → Only P → (k : ℕ) → Only (Several P k)
 several_only P o zero = done_only []
 several_only P o (suc k) = then_only P (λ x. Then (Several P k) (λ xs. Done (x ∷ xs))) o (λ x. then_only (Several P k) (λ xs. Done (x ∷ xs)) (several_only P o k) (λ xs. done_only (x ∷ xs)))
 
@@ -70,32 +70,28 @@ ways_only end states bs a b (stray s1 k1 e1) (joined c2 e2) = absurd (k1.1 (c2 s
 ways_only end states bs a b (joined c1 e1) (stray s2 k2 e2) = absurd (k2.1 (c1 s2 k2.0))
 ways_only end states bs a b (joined c1 e1) (joined c2 e2) = e1 ∙ sym e2
 
+-- what the bytes of a note answer
+note_answer : ℕ → List ℕ → Answer (List ℕ)
+note_answer end bs =
+    cond (ltb (length bs) 2) (Err (Missing end)) (cond (ltb 1000 (note_length bs)) (Err (Tail (end - length bs)))
+    (cond (ltb (length bs) (2 + note_length bs)) (Err (Missing end)) (cond (ltb (2 + note_length bs) (length bs)) (Err (Tail (end - length bs + (2 + note_length bs)))) (Ok (drop 2 bs, [])))))
+
+note_is : (end : ℕ) (bs : List ℕ) (a : Answer (List ℕ)) → Note end bs a → a ≡ note_answer end bs
+unfolding note_answer
+note_is end bs a (reads.Note.missing h e) = rw (lt-ltb (length bs) 2 h) e
+note_is end bs a (long h l e) = rw (le-ltb (length bs) 2 h, lt-ltb 1000 (note_length bs) l) e
+note_is end bs a (short h l m e) = rw (le-ltb (length bs) 2 h, le-ltb 1000 (note_length bs) l, lt-ltb (length bs) (2 + note_length bs) m) e
+note_is end bs a (trailing h l m e) =
+    let n : 2 + note_length bs ≤ length bs = omega arith in
+    rw (le-ltb (length bs) 2 h, le-ltb 1000 (note_length bs) l, le-ltb (length bs) (2 + note_length bs) n, lt-ltb (2 + note_length bs) (length bs) m) e
+note_is end bs a (whole l m e) =
+    let h : 2 ≤ length bs = omega arith in
+    let n : 2 + note_length bs ≤ length bs = omega arith in
+    let o : length bs ≤ 2 + note_length bs = omega arith in
+    rw (le-ltb (length bs) 2 h, le-ltb 1000 (note_length bs) l, le-ltb (length bs) (2 + note_length bs) n, le-ltb (2 + note_length bs) (length bs) o) e
+
 note_only : (end : ℕ) → Only (Note end)
-note_only end bs a b (reads.Note.missing h1 e1) (reads.Note.missing h2 e2) = e1 ∙ sym e2
-note_only end bs a b (reads.Note.missing h1 e1) (long h2 l2 e2) = absurd (omega arith)
-note_only end bs a b (reads.Note.missing h1 e1) (short h2 l2 m2 e2) = absurd (omega arith)
-note_only end bs a b (reads.Note.missing h1 e1) (trailing h2 l2 m2 e2) = absurd (omega arith)
-note_only end bs a b (reads.Note.missing h1 e1) (whole l2 m2 e2) = absurd (omega arith)
-note_only end bs a b (long h1 l1 e1) (reads.Note.missing h2 e2) = absurd (omega arith)
-note_only end bs a b (long h1 l1 e1) (long h2 l2 e2) = e1 ∙ sym e2
-note_only end bs a b (long h1 l1 e1) (short h2 l2 m2 e2) = absurd (omega arith)
-note_only end bs a b (long h1 l1 e1) (trailing h2 l2 m2 e2) = absurd (omega arith)
-note_only end bs a b (long h1 l1 e1) (whole l2 m2 e2) = absurd (omega arith)
-note_only end bs a b (short h1 l1 m1 e1) (reads.Note.missing h2 e2) = absurd (omega arith)
-note_only end bs a b (short h1 l1 m1 e1) (long h2 l2 e2) = absurd (omega arith)
-note_only end bs a b (short h1 l1 m1 e1) (short h2 l2 m2 e2) = e1 ∙ sym e2
-note_only end bs a b (short h1 l1 m1 e1) (trailing h2 l2 m2 e2) = absurd (omega arith)
-note_only end bs a b (short h1 l1 m1 e1) (whole l2 m2 e2) = absurd (omega arith)
-note_only end bs a b (trailing h1 l1 m1 e1) (reads.Note.missing h2 e2) = absurd (omega arith)
-note_only end bs a b (trailing h1 l1 m1 e1) (long h2 l2 e2) = absurd (omega arith)
-note_only end bs a b (trailing h1 l1 m1 e1) (short h2 l2 m2 e2) = absurd (omega arith)
-note_only end bs a b (trailing h1 l1 m1 e1) (trailing h2 l2 m2 e2) = e1 ∙ sym e2
-note_only end bs a b (trailing h1 l1 m1 e1) (whole l2 m2 e2) = absurd (omega arith)
-note_only end bs a b (whole l1 m1 e1) (reads.Note.missing h2 e2) = absurd (omega arith)
-note_only end bs a b (whole l1 m1 e1) (long h2 l2 e2) = absurd (omega arith)
-note_only end bs a b (whole l1 m1 e1) (short h2 l2 m2 e2) = absurd (omega arith)
-note_only end bs a b (whole l1 m1 e1) (trailing h2 l2 m2 e2) = absurd (omega arith)
-note_only end bs a b (whole l1 m1 e1) (whole l2 m2 e2) = e1 ∙ sym e2
+note_only end bs a b p q = note_is end bs a p ∙ sym (note_is end bs b q)
 
 record_only : (items codes states end : ℕ) → Only (StateRecord items codes states end)
 record_only items codes states end bs a b (reads.StateRecord.missing h1 e1) (reads.StateRecord.missing h2 e2) = e1 ∙ sym e2
@@ -110,7 +106,7 @@ record_only items codes states end bs a b (sound h1 n1 e1) (reads.StateRecord.mi
 record_only items codes states end bs a b (sound h1 n1 e1) (wrong k2 h2 w2 l2 e2) = absurd (n1 k2 w2)
 record_only items codes states end bs a b (sound h1 n1 e1) (sound h2 n2 e2) = e1 ∙ sym e2
 
-pub type_only : (items codes end : ℕ) → Only (TypePart items codes end)
+type_only : (items codes end : ℕ) → Only (TypePart items codes end)
 type_only items codes end =
     then_only (Range 32 end) (λ k. Then (Several (StateRecord items codes k end) k) (Ways end)) (range_only 32 end)
     (λ k. then_only (Several (StateRecord items codes k end) k) (Ways end) (several_only (StateRecord items codes k end) (record_only items codes k end) k) (ways_only end))

@@ -1,5 +1,6 @@
 -- The parts of a file: one after the other, and at most one answer each.
-use Rattle.std.proofs.Common.{◌≡◌, ℕ, zero, suc, ◌+◌, ◌-◌, ◌<◌, ◌≤◌, List, [], ◌∷◌, ◌++◌, length, take, drop, Ok, Err, Result, sym, refl, ap, ◌∙◌, subst, add-one, arith}
+use Rattle.std.proofs.Common.{◌≡◌, ℕ, zero, suc, ◌+◌, ◌-◌, ◌<◌, ◌≤◌, List, [], ◌∷◌, ◌++◌, length, take, drop, Ok, Err, Result, IsErrAnd, sym, refl, ap, ◌∙◌, subst, add-one, arith}
+use Rattle.std.proofs.lemmas.Result.{err_from_is_err_and}
 use Rattle.workload.specs.declared.fault.Fault.{Fault}
 use Rattle.workload.specs.declared.fault.Fault.TheVariants.{Tree}
 use Rattle.rules.specs.declared.state.State.{State}
@@ -22,6 +23,14 @@ module _ {X : Type 0} where
   pub rest_same : (x y : X) (r s : List ℕ) → ◌≡◌ {A = Answer X} (Ok (x, r)) (Ok (y, s)) → r ≡ s
   rest_same x y r s e = ap (λ (z : X × List ℕ). z.1) (same_ok (x, r) (y, s) e)
 
+-- a `?` hands the fault on
+pub handed : {X : Type 0} (r : Result X Fault) (f : Fault) → IsErrAnd r (λ g. g ≡ f) → r ≡ Err f
+handed r f h = let p = err_from_is_err_and r h in p.1 ∙ ap (λ (g : Fault). Err g) p.2
+
+-- two places that are the same end of a file
+pub at_end : {X : Type 0} (P : ℕ → Part X) {e f : ℕ} {bs : List ℕ} {a : Answer X} → e ≡ f → P e bs a → P f bs a
+at_end P {bs = bs} {a = a} h p = subst (λ (n : ℕ). P n bs a) h p
+
 -- what a sequence that came to its end has read
 pub then_open : {X Y : Type 0} (P : Part X) (Q : X → Part Y) (bs : List ℕ) (y : Y) (end : List ℕ) → Then P Q bs (Ok (y, end))
     → (x : X) × (rest : List ℕ) × P bs (Ok (x, rest)) × Q x rest (Ok (y, end))
@@ -34,6 +43,10 @@ several_open P k bs xs rest h =
     let o = then_open P (λ x. Then (Several P k) (λ ys. Done (x ∷ ys))) bs xs rest h in
     let i = then_open (Several P k) (λ ys. Done (o.0 ∷ ys)) o.1 xs rest o.3 in
     (o.0, o.1, i.0, o.2, subst (λ (r : List ℕ). Several P k o.1 (Ok (i.0, r))) (sym (rest_same xs (o.0 ∷ i.0) rest i.1 i.3)) i.2, value_same xs (o.0 ∷ i.0) rest i.1 i.3)
+
+pub several_many : {X : Type 0} (P : Part X) (k : ℕ) (bs : List ℕ) (xs : List X) (rest : List ℕ) → Several P k bs (Ok (xs, rest)) → length xs ≡ k
+several_many P zero bs xs rest h = ap length (value_same xs [] rest bs h)
+several_many P (suc k) bs xs rest h = let o = several_open P k bs xs rest h in ap length o.5 ∙ ap suc (several_many P k o.1 o.2 rest o.4)
 
 pub several_more : {X : Type 0} (P : Part X) (k : ℕ) (bs : List ℕ) (xs : List X) (rest : List ℕ) (x : X) (next : List ℕ) → Several P k bs (Ok (xs, rest)) → P rest (Ok (x, next)) → Several P (suc k) bs (Ok (xs ++ x ∷ [], next))
 several_more P zero bs xs rest x next h p =

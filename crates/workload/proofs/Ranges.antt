@@ -1,5 +1,5 @@
 -- A record with no wrong byte has its numbers in range, and the other way round.
-use Rattle.std.proofs.Common.{◌≡◌, ℕ, zero, suc, ◌+◌, ◌*◌, ◌<◌, ◌≤◌, List, [], length, get_or, drop, Ok, sym, refl, ap, ◌∙◌, subst, inl, inr, arith, length-drop, w32, SFits}
+use Rattle.std.proofs.Common.{◌≡◌, ℕ, zero, suc, ◌+◌, ◌*◌, ◌<◌, ◌≤◌, List, [], length, get_or, drop, Ok, sym, refl, ap, subst, inl, inr, arith, length-drop, w32, SFits}
 use Rattle.std.proofs.lemmas.List.{get_or_past}
 use Rattle.std.proofs.lemmas.Bool.{cases_lt, cases_eq}
 use Rattle.rules.specs.declared.state.State.{State}
@@ -76,20 +76,11 @@ record_good items codes states end bs x next (sound h n e) =
       long = omega (arith, ap length r, length-drop 11 bs);
     }
 
--- k records have been read
-pub record ReadAll (k : ℕ) (bs : List ℕ) (xs : List State) (rest : List ℕ) : Type 0 where
-  pub many : length xs ≡ k
-  pub long : length rest + 11 * k ≡ length bs
-
-pub records_read
+-- how many bytes k records take
+pub records_long
     : (items codes states end k : ℕ) (bs : List ℕ) (xs : List State) (rest : List ℕ)
-    → Several (StateRecord items codes states end) k bs (Ok (xs, rest)) → ReadAll k bs xs rest
-records_read items codes states end zero bs xs rest e =
-    let n = value_same xs [] rest bs e in
-    let m = rest_same xs [] rest bs e in
-    record { many = ap length n; long = omega (arith, ap length m) }
-records_read items codes states end (suc k) bs xs rest e =
+    → Several (StateRecord items codes states end) k bs (Ok (xs, rest)) → length rest + 11 * k ≡ length bs
+records_long items codes states end zero bs xs rest e = omega (arith, ap length (rest_same xs [] rest bs e))
+records_long items codes states end (suc k) bs xs rest e =
     let t = several_open (StateRecord items codes states end) k bs xs rest e in
-    let g = record_good items codes states end bs t.0 t.1 t.3 in
-    let r = records_read items codes states end k t.1 t.2 rest t.4 in
-    record { many = ap length t.5 ∙ ap suc r.many; long = omega (arith, g.long, r.long) }
+    omega (arith, (record_good items codes states end bs t.0 t.1 t.3).long, records_long items codes states end k t.1 t.2 rest t.4)

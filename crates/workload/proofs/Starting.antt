@@ -1,5 +1,5 @@
 -- A workload of one lone state keeps the rules.
-use Rattle.std.proofs.Common.{◌≡◌, ℕ, zero, suc, ◌<◌, ◌≤◌, List, [], ◌∷◌, length, get_or, ℤ, sym, refl, ap, ◌∙◌, subst₂, inr, arith, w32, SFits}
+use Rattle.std.proofs.Common.{◌≡◌, ℕ, zero, suc, ◌<◌, ◌≤◌, List, [], ◌∷◌, length, get_or, ℤ, refl, ap, ◌∙◌, inr, arith, w32, SFits}
 use Rattle.rules.specs.declared.state.State.{State}
 use Rattle.rules.specs.Lawful.{Lawful}
 use Rattle.rules.specs.Reach.{here}
@@ -56,9 +56,5 @@ lone_lawful codes x hc f =
     each zero h = f
     each (suc t) h = absurd (omega arith)
 
-pub single_lawful
-    : (parents : List ℕ) (all : List (List State)) (operand : ℤ) → SFits w32 operand → parents ≡ 255 ∷ [] → all ≡ (lone_state operand ∷ []) ∷ []
-    → Lawful parents 1 all
-single_lawful parents all operand f ep ea =
-    subst₂ (λ (p : List ℕ) (a : List (List State)). Lawful p 1 a) (sym ep) (sym ea)
-    (lone_lawful 1 (lone_state operand) (omega arith, omega arith) (lone_fine 1 (lone_state operand) (omega arith) (omega arith) refl refl f))
+pub single_lawful : (operand : ℤ) → SFits w32 operand → Lawful (255 ∷ []) 1 ((lone_state operand ∷ []) ∷ [])
+single_lawful operand f = lone_lawful 1 (lone_state operand) (omega arith, omega arith) (lone_fine 1 (lone_state operand) (omega arith) (omega arith) refl refl f)

@@ -1,13 +1,12 @@
 -- What reading a workload file promises.
-use Rattle.std.specs.Prelude.{◌≡◌, ℕ, ◌+◌, ◌≤◌, ◌⊎◌, List, [], length, drop, Ok, vec_items}
+use Rattle.std.specs.Prelude.{◌≡◌, ℕ, ◌+◌, ◌≤◌, ◌⊎◌, List, length, drop, vec_items}
 use Rattle.workload.specs.declared.fault.Fault.{Fault}
 use Rattle.workload.specs.declared.fault.Fault.TheVariants.{Memory}
+use Rattle.workload.specs.declared.file.FileParts.{FileParts}
 use Rattle.workload.specs.declared.file.NoteSpan.{NoteSpan}
 use Rattle.workload.specs.declared.definition.Workload.{Workload}
-use Rattle.workload.specs.declared.read.Sizes.{Sizes}
 use Rattle.workload.specs.Encoding.{encoded}
-use Rattle.rules.specs.declared.state.State.{State}
-use Rattle.workload.specs.Reads.{Accepted, Contents, Header, Note, Parents, Refused, Several, TypePart}
+use Rattle.workload.specs.Reads.{Accepted, Contents, Refused}
 use Rattle.workload.specs.Types.{all_states}
 
 -- the bytes of a workload and a note
@@ -18,12 +17,9 @@ file_of w note = encoded (vec_items w.parents) w.code_count (all_states (vec_ite
 abbrev pub Spans : List ℕ → NoteSpan → List ℕ → Type 0
 Spans bs s note = (s.place + s.length ≡ length bs) × (drop s.place bs ≡ note)
 
--- a file without a fault in its parts: the counts, the parents, the bytes of the types, and the note
-abbrev pub Surveyed : List ℕ → Sizes → (parents types note : List ℕ) → Type 0
-Surveyed bs h parents types note =
-    (body : List ℕ) × (states : List (List State)) × (tail : List ℕ)
-    × Header (length bs) bs (Ok (h, body)) × Parents h.items (length bs) body (Ok (parents, types))
-    × Several (TypePart h.items h.codes (length bs)) h.types types (Ok (states, tail)) × Note (length bs) tail (Ok (note, []))
+-- what the parts of a file hold
+abbrev pub contents_of : FileParts → Contents
+contents_of p = record { parents = p.parents.now; codes = p.code_count; types = p.types; note = p.note.now }
 
 -- the file is the workload's with a note, and the span is the note's
 abbrev pub Filled : List ℕ → Workload → NoteSpan → Type 0

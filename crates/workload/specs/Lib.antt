@@ -3,6 +3,7 @@ pub mod View
 pub mod Encoding
 pub mod Format
 pub mod Reads
+pub mod Readers
 pub mod Files
 pub mod Numbers
 pub mod Small

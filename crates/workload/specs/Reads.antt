@@ -1,7 +1,7 @@
 -- What reading a workload file gives: each part either its value and the bytes that follow it, or the first fault
 -- in the order of the fields. `end` is the length of the file and the bytes at hand are its last ones, so that they
 -- begin at the place `end` less their number.
-use Rattle.std.specs.Prelude.{◌≡◌, ℕ, zero, suc, ◌+◌, ◌-◌, ◌*◌, ◌<◌, ◌≤◌, ◌⊎◌, List, [], ◌∷◌, ◌++◌, length, take, drop, Ok, Err, Result, MatchResult, ◌≢◌, slice_index}
+use Rattle.std.specs.Prelude.{◌≡◌, ℕ, zero, suc, ◌+◌, ◌-◌, ◌*◌, ◌<◌, ◌≤◌, ◌⊎◌, List, [], ◌∷◌, ◌++◌, length, take, drop, Ok, Err, Result, ◌≢◌, slice_index}
 use Rattle.workload.specs.declared.fault.Fault.{Fault}
 use Rattle.workload.specs.declared.fault.Fault.TheVariants.{Missing, Mark, Count, Tree, Record, Stray, Tail}
 use Rattle.rules.specs.declared.state.State.{State}
@@ -17,10 +17,6 @@ Answer X = Result (X × List ℕ) Fault
 -- a part of a file says which bytes have which answer
 abbrev pub Part : Type 0 → Type 1
 Part X = List ℕ → Answer X → Type 0
-
--- what a reader returned, of which P says whether it is an answer; a reader returns the bytes that follow by a reference
-abbrev pub Gives : {X R : Type 0} → (R → List ℕ) → (Answer X → Type 0) → Result (X × R) Fault → Type 0
-Gives bytes P r = MatchResult r (λ p. P (Ok (p.0, bytes p.1))) (λ f. P (Err f))
 
 -- no bytes have two answers
 abbrev pub Only : {X : Type 0} → Part X → Type 0

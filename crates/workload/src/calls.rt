@@ -1,5 +1,5 @@
 // What a workload tells of itself: each call is a look-up.
-ghost use Rattle.std.specs.Prelude.{◌≡◌, ◌<◌, ◌≤◌, true, [], vec_len, Decides, slice_index_or};
+ghost use Rattle.std.specs.Prelude.{◌≡◌, ◌<◌, ◌≤◌, true, [], vec_items, slice_index_or};
 ghost use Rattle.model.specs.Workload.{WellFormed};
 ghost use Rattle.rules.specs.Plans.{Planned};
 ghost use Rattle.workload.specs.Types.{all_states};
@@ -52,60 +52,39 @@ impl Workload {
         self.types.as_slice()
     }
 
-    // The states of type t; nothing where there is no such type.
-    fn states(&self, t: u8) -> Option<&[State]>
-        ensures { Answers result (t < (view self.now).types) (λ xs. xs.now ≡ slice_index_or (all_states self.now.types.items) t []) }
+    // The type t; nothing where there is no such type.
+    fn job_type(&self, t: u8) -> Option<&JobType>
+        ensures { Answers result (t < (view self.now).types) (λ j. (vec_items j.now.states ≡ slice_index_or (all_states self.now.types.items) t []) × Planned (view self.now) t j.now.plan) }
     {
-        if t as usize >= self.types.len() {
-            return None;
-        }
-        Some(self.types[t as usize].states.as_slice())
+        self.types.get(t as usize)
     }
 
     // How many states type t has; nothing where there is no such type.
     pub fn state_count(&self, t: u8) -> Option<u8>
         ensures { Answers result (t < (view self.now).types) (λ n. n ≡ (view self.now).states t) }
     {
-        let states = self.states(t)?;
-        Some(states.len() as u8)
-    }
-
-    // Whether the item d is the root of the tree.
-    fn is_root(&self, d: u8) -> bool
-        requires { d < vec_len self.now.parents }
-        ensures { Decides result (d ≡ (view self.now).top) }
-    {
-        self.parents[d as usize] == ROOT_MARK
+        Some(self.job_type(t)?.states.len() as u8)
     }
 
     // The parent of item d; nothing where d is the root or no item.
     pub fn parent(&self, d: u8) -> Option<u8>
         ensures { Answers result (HasParent (view self.now) d) (λ p. p ≡ (view self.now).up d) }
     {
-        if d as usize >= self.parents.len() {
-            return None;
-        }
-        if self.is_root(d) {
-            return None;
-        }
-        Some(self.parents[d as usize])
+        let parent = *self.parents.get(d as usize)?;
+        (parent != ROOT_MARK).then_some(parent)
     }
 
     // State s of type t; nothing where there is no such state.
     pub fn state(&self, t: u8, s: u8) -> Option<State>
         ensures { Answers result (HasState (view self.now) t s) (IsState (view self.now) t s) }
     {
-        let states = self.states(t)?;
-        if s as usize >= states.len() {
-            return None;
-        }
-        Some(states[s as usize])
+        self.job_type(t)?.states.get(s as usize).copied()
     }
 
     // The plan of type t: its local lock tree and the sets of its states; nothing where there is no such type.
     pub fn plan(&self, t: u8) -> Option<&Plan>
         ensures { Answers result (t < (view self.now).types) (λ p. Planned (view self.now) t p.now) }
     {
-        self.plans.get(t as usize)
+        Some(&self.job_type(t)?.plan)
     }
 }

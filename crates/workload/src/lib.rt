@@ -7,4 +7,5 @@ pub mod fault;
 pub mod file;
 mod plans;
 mod read;
+mod row;
 mod start;

@@ -1,30 +1,30 @@
 // The plans of the job types of a workload.
-ghost use Rattle.std.specs.Prelude.{ℕ, IfOk};
+ghost use Rattle.std.specs.Prelude.{◌≡◌, ℕ, IfOk};
 ghost use Rattle.rules.specs.Lawful.{Lawful};
 ghost use Rattle.rules.specs.Plans.{Kept};
 ghost use Rattle.rules.specs.View.{workload_of};
-ghost use Rattle.workload.specs.Types.{all_states};
+ghost use Rattle.workload.specs.Types.{all_plans, all_states};
 
 use crate::definition::JobType;
-use rules::plan::{Plan, plan_of};
+use crate::row::StateRow;
+use rules::plan::plan_of;
 use std::alloc::{AllocError, Global};
 
-// The plans of all types, in their order.
-pub(crate) fn plans_of(
+// Takes job types into memory, each with its plan.
+pub(crate) fn planned_types(
     heap: Global,
     parents: &[u8],
-    types: &[JobType],
-) -> Result<Vec<Plan>, AllocError>
-    requires { (codes : ℕ) × Lawful parents.now codes (all_states types.now) }
-    ensures { IfOk result (λ v. (codes : ℕ) → Lawful parents.now codes (all_states types.now) → Kept (workload_of parents.now codes (all_states types.now)) v.items) }
+    rows: &[StateRow],
+) -> Result<Vec<JobType>, AllocError>
+    requires { (codes : ℕ) × Lawful parents.now codes rows.now }
+    ensures states { IfOk result (λ v. all_states v.items ≡ rows.now) }
+    ensures plans { IfOk result (λ v. (codes : ℕ) → Lawful parents.now codes rows.now → Kept (workload_of parents.now codes rows.now) (all_plans v.items)) }
 {
-    let mut plans = Vec::new(heap);
-    for t in 0..types.len() {
-        let plan = match plan_of(parents, types[t].states.as_slice()) {
-            Some(plan) => plan,
-            None => unreachable(),
-        };
-        plans.push(plan)?;
+    let mut types = Vec::with_capacity(heap, rows.len())?;
+    for row in rows {
+        let plan = plan_of(parents, row.as_slice()).unwrap();
+        let states = Vec::from_slice(heap, row.as_slice())?;
+        types.push(JobType { states, plan })?;
     }
-    Ok(plans)
+    Ok(types)
 }

@@ -1,200 +1,12 @@
 // The readers of a workload file's fields. None asks for memory, so that a file is tested whole before any is.
-// `end` is the length of the file, and the bytes that a reader is given are its last ones:
-// they begin at the place `end` less their number.
-ghost use Rattle.std.specs.Prelude.{◌≡◌, ℕ, ◌<◌, ◌≤◌, List, [], length, take, IfOk, Ok, Err, Decides, MatchOption, MatchResult};
-ghost use Rattle.workload.specs.Encoding.{mark, version};
+ghost use Rattle.std.specs.Prelude.{◌≡◌, ℕ, ◌+◌, ◌-◌, ◌<◌, ◌≤◌, [], length, IfOk, Ok, Err, Decides, MatchOption, MatchResult};
 ghost use Rattle.workload.specs.Format.{RightArc, WrongByte};
-ghost use Rattle.workload.specs.Reads.{Gives, Header, Note, Parents, Range, Several, Sign, StateRecord, TypePart};
 
 use crate::fault::Fault;
+use crate::row::{StateRow, TypeRow};
 use rules::state::State;
 use rules::tree::first_unrooted;
 use rules::ways::first_stray;
-
-// What the numbers of a state's record lie below.
-#[derive(Clone, Copy)]
-pub(crate) struct Limits {
-    pub items: u8,
-    pub codes: u8,
-    pub states: u8,
-}
-
-// Whether the arc byte at j names a state, or is not used and 0.
-fn right_arc(j: u8, count: u8, states: u8, arc: u8) -> bool
-    ensures { Decides result (RightArc states count j arc) }
-{
-    if j < count { arc < states } else { arc == 0 }
-}
-
-// The first wrong byte of a record, counted from 0.
-fn wrong_byte(limits: Limits, state: State) -> Option<usize>
-    ensures { MatchOption result ((k : ℕ) → WrongByte limits.items limits.codes limits.states state k → ⊥) (λ k. (k < 11) × WrongByte limits.items limits.codes limits.states state k × ((q : ℕ) → q < k → WrongByte limits.items limits.codes limits.states state q → ⊥)) }
-{
-    if state.item >= limits.items {
-        return Some(0);
-    }
-    if state.code >= limits.codes {
-        return Some(1);
-    }
-    if state.arc_count > 4 {
-        return Some(6);
-    }
-    for j in 0..4u8 {
-        if !right_arc(j, state.arc_count, limits.states, state.arcs[j as usize]) {
-            return Some(7 + j as usize);
-        }
-    }
-    None
-}
-
-// Reads one state's record and leaves the rest of the file to the next.
-fn read_record(bytes: &[u8], end: usize, limits: Limits) -> Result<(State, &[u8]), Fault>
-    requires { length bytes.now ≤ end }
-    ensures rest { IfOk result (λ p. length p.1.now ≤ length bytes.now) }
-    ensures answer { Gives (λ b. b.now) (StateRecord limits.items limits.codes limits.states end bytes.now) result }
-{
-    let [item, code, o0, o1, o2, o3, count, a0, a1, a2, a3, rest @ ..] = bytes else {
-        return Err(Fault::Missing(end));
-    };
-    let state = State {
-        item: *item,
-        code: *code,
-        operand: i32::from_be_bytes([*o0, *o1, *o2, *o3]),
-        arc_count: *count,
-        arcs: [*a0, *a1, *a2, *a3],
-    };
-    if let Some(k) = wrong_byte(limits, state) {
-        return Err(Fault::Record(end - bytes.len() + k));
-    }
-    Ok((state, rest))
-}
-
-// The states of one type, in a row with room for as many as a type may have.
-#[derive(Clone, Copy)]
-pub(crate) struct StateRow {
-    pub count: u8,
-    pub row: [State; 32],
-}
-
-// Reads as many records as a type has states.
-fn read_records(bytes: &[u8], end: usize, limits: Limits) -> Result<(StateRow, &[u8]), Fault>
-    requires within { length bytes.now ≤ end }
-    requires few { limits.states ≤ 32 }
-    ensures rest { IfOk result (λ p. length p.1.now ≤ length bytes.now) }
-    ensures count { IfOk result (λ p. (p.0.count ≡ limits.states) × (length p.0.row ≡ 32)) }
-    ensures answer { MatchResult result (λ p. Several (StateRecord limits.items limits.codes limits.states end) limits.states bytes.now (Ok (take p.0.count p.0.row, p.1.now))) (λ f. Several (StateRecord limits.items limits.codes limits.states end) limits.states bytes.now (Err f)) }
-{
-    let mut row = [State {
-        item: 0,
-        code: 0,
-        operand: 0,
-        arc_count: 0,
-        arcs: [0, 0, 0, 0],
-    }; 32];
-    let mut rest = bytes;
-    for k in 0..limits.states {
-        let (state, next) = read_record(rest, end, limits)?;
-        row[k as usize] = state;
-        rest = next;
-    }
-    Ok((
-        StateRow {
-            count: limits.states,
-            row,
-        },
-        rest,
-    ))
-}
-
-// Reads a count from 1 to `high`.
-fn read_count(bytes: &[u8], end: usize, high: u8) -> Result<(u8, &[u8]), Fault>
-    requires { length bytes.now ≤ end }
-    ensures rest { IfOk result (λ p. (length p.1.now ≤ length bytes.now) × (1 ≤ p.0) × (p.0 ≤ high)) }
-    ensures answer { Gives (λ b. b.now) (Range high end bytes.now) result }
-{
-    let [count, rest @ ..] = bytes else {
-        return Err(Fault::Missing(end));
-    };
-    if *count < 1 || *count > high {
-        return Err(Fault::Count(end - bytes.len()));
-    }
-    Ok((*count, rest))
-}
-
-// Reads one job type: the number of its states, their records, and whether they hang together.
-pub(crate) fn read_type(
-    bytes: &[u8],
-    end: usize,
-    items: u8,
-    codes: u8,
-) -> Result<(StateRow, &[u8]), Fault>
-    requires { length bytes.now ≤ end }
-    ensures rest { IfOk result (λ p. length p.1.now ≤ length bytes.now) }
-    ensures count { IfOk result (λ p. (p.0.count ≤ 32) × (length p.0.row ≡ 32)) }
-    ensures answer { MatchResult result (λ p. TypePart items codes end bytes.now (Ok (take p.0.count p.0.row, p.1.now))) (λ f. TypePart items codes end bytes.now (Err f)) }
-{
-    let (states, rest) = read_count(bytes, end, 32)?;
-    let limits = Limits {
-        items,
-        codes,
-        states,
-    };
-    let (read, rest) = read_records(rest, end, limits)?;
-    if let Some(s) = first_stray(&read.row[..states as usize]) {
-        return Err(Fault::Stray(end - rest.len() - 11 * (states as usize - s)));
-    }
-    Ok((read, rest))
-}
-
-// Tests as many job types as there are, and answers the bytes after them.
-pub(crate) fn check_types(
-    bytes: &[u8],
-    end: usize,
-    items: u8,
-    codes: u8,
-    count: u8,
-) -> Result<&[u8], Fault>
-    requires { length bytes.now ≤ end }
-    ensures rest { IfOk result (λ p. length p.now ≤ length bytes.now) }
-    ensures answer { MatchResult result (λ p. (types : List (List State)) × Several (TypePart items codes end) count bytes.now (Ok (types, p.now))) (λ f. Several (TypePart items codes end) count bytes.now (Err f)) }
-{
-    let mut rest = bytes;
-    for _t in 0..count {
-        let (_read, next) = read_type(rest, end, items, codes)?;
-        rest = next;
-    }
-    Ok(rest)
-}
-
-// Reads the letters TLW.
-fn read_mark(bytes: &[u8], end: usize) -> Result<&[u8], Fault>
-    requires { length bytes.now ≤ end }
-    ensures rest { IfOk result (λ p. length p.now ≤ length bytes.now) }
-    ensures answer { MatchResult result (λ p. Sign mark end bytes.now (Ok (mark, p.now))) (λ f. Sign mark end bytes.now (Err f)) }
-{
-    let [t, l, w, rest @ ..] = bytes else {
-        return Err(Fault::Missing(end));
-    };
-    if *t != b'T' || *l != b'L' || *w != b'W' {
-        return Err(Fault::Mark(end - bytes.len()));
-    }
-    Ok(rest)
-}
-
-// Reads the version, which is 1.
-fn read_version(bytes: &[u8], end: usize) -> Result<&[u8], Fault>
-    requires { length bytes.now ≤ end }
-    ensures rest { IfOk result (λ p. length p.now ≤ length bytes.now) }
-    ensures answer { MatchResult result (λ p. Sign version end bytes.now (Ok (version, p.now))) (λ f. Sign version end bytes.now (Err f)) }
-{
-    let [high, low, rest @ ..] = bytes else {
-        return Err(Fault::Missing(end));
-    };
-    if *high != 0 || *low != 1 {
-        return Err(Fault::Mark(end - bytes.len()));
-    }
-    Ok(rest)
-}
 
 // How many items, types and codes a workload has.
 #[derive(Clone, Copy)]
@@ -204,62 +16,219 @@ pub(crate) struct Sizes {
     pub codes: u8,
 }
 
-// Reads the mark, the version and the three counts.
-pub(crate) fn read_header(file: &[u8]) -> Result<(Sizes, &[u8]), Fault>
-    ensures rest { IfOk result (λ p. length p.1.now ≤ length file.now) }
-    ensures high { IfOk result (λ p. (1 ≤ p.0.items) × (p.0.items ≤ 64)) }
-    ensures answer { Gives (λ b. b.now) (Header (length file.now) file.now) result }
-{
-    let end = file.len();
-    let rest = read_mark(file, end)?;
-    let rest = read_version(rest, end)?;
-    let (items, rest) = read_count(rest, end, 64)?;
-    let (types, rest) = read_count(rest, end, 8)?;
-    let (codes, rest) = read_count(rest, end, 255)?;
-    Ok((
-        Sizes {
+// What the numbers of a state's record lie below.
+#[derive(Clone, Copy)]
+struct Limits {
+    items: u8,
+    codes: u8,
+    states: u8,
+}
+
+impl Limits {
+    // Whether the arc byte at j names a state, or is not used and 0.
+    fn right_arc(self, count: u8, j: usize, arc: u8) -> bool
+        ensures { Decides result (RightArc self.states count j arc) }
+    {
+        if j < count as usize {
+            arc < self.states
+        } else {
+            arc == 0
+        }
+    }
+
+    // The first wrong byte of a record, counted from 0.
+    fn wrong_byte(self, state: State) -> Option<usize>
+        ensures { MatchOption result ((k : ℕ) → WrongByte self.items self.codes self.states state k → ⊥) (λ k. (k < 11) × WrongByte self.items self.codes self.states state k × ((q : ℕ) → q < k → WrongByte self.items self.codes self.states state q → ⊥)) }
+    {
+        if state.item >= self.items {
+            return Some(0);
+        }
+        if state.code >= self.codes {
+            return Some(1);
+        }
+        if state.arc_count > 4 {
+            return Some(6);
+        }
+        for (j, arc) in state.arcs.iter().enumerate() {
+            if !self.right_arc(state.arc_count, j, *arc) {
+                return Some(7 + j);
+            }
+        }
+        None
+    }
+}
+
+// What is left of a file to read, and the place at which the file ends. A reader takes the bytes of its field.
+#[derive(Drop)]
+pub(crate) struct Rest<'a> {
+    bytes: &'a [u8],
+    end: usize,
+    ghost within: { length bytes.now ≤ end },
+}
+
+impl<'a> Rest<'a> {
+    ghost use Rattle.workload.specs.Readers.{Gives};
+    ghost use Rattle.workload.specs.Reads.{Header, Note, Parents, Range, Several, Sign, StateRecord, TypePart};
+
+    // A whole file.
+    pub(crate) fn of(file: &'a [u8]) -> Rest<'a>
+        ensures bytes { result.bytes.now ≡ file.now }
+        ensures end { result.end ≡ length file.now }
+    {
+        Rest {
+            bytes: file,
+            end: file.len(),
+        }
+    }
+
+    // The place in the file of byte i of those that are left.
+    fn place(&self, i: usize) -> usize
+        requires { i ≤ length self.now.bytes.now }
+        ensures { result ≡ self.now.end - length self.now.bytes.now + i }
+    {
+        self.end - self.bytes.len() + i
+    }
+
+    // Reads fixed bytes: the mark or the version.
+    fn sign(&mut self, sign: &[u8]) -> Result<(), Fault>
+        ensures { Gives (Sign sign.now) (λ _. sign.now) self.old self.new result }
+    {
+        if self.bytes.len() < sign.len() {
+            return Err(Fault::Missing(self.end));
+        }
+        let Some(rest) = self.bytes.strip_prefix(sign) else {
+            return Err(Fault::Mark(self.place(0)));
+        };
+        self.bytes = rest;
+        Ok(())
+    }
+
+    // Reads a count from 1 to `high`.
+    fn count(&mut self, high: u8) -> Result<u8, Fault>
+        ensures range { IfOk result (λ n. (1 ≤ n) × (n ≤ high)) }
+        ensures answer { Gives (Range high) (λ n. n) self.old self.new result }
+    {
+        let [count, rest @ ..] = self.bytes else {
+            return Err(Fault::Missing(self.end));
+        };
+        if *count < 1 || *count > high {
+            return Err(Fault::Count(self.place(0)));
+        }
+        self.bytes = rest;
+        Ok(*count)
+    }
+
+    // Reads the mark, the version and the three counts.
+    pub(crate) fn header(&mut self) -> Result<Sizes, Fault>
+        ensures range { IfOk result (λ s. (s.items ≤ 64) × (s.types ≤ 8)) }
+        ensures answer { Gives Header (λ s. s) self.old self.new result }
+    {
+        self.sign(b"TLW")?;
+        self.sign(&[0, 1])?;
+        let items = self.count(64)?;
+        let types = self.count(8)?;
+        let codes = self.count(255)?;
+        Ok(Sizes {
             items,
             types,
             codes,
-        },
-        rest,
-    ))
-}
+        })
+    }
 
-// Reads the parents of n items and tests that they make a tree.
-pub(crate) fn read_parents(bytes: &[u8], end: usize, n: u8) -> Result<(&[u8], &[u8]), Fault>
-    requires within { length bytes.now ≤ end }
-    requires few { n ≤ 64 }
-    ensures rest { IfOk result (λ p. length p.1.now ≤ length bytes.now) }
-    ensures answer { MatchResult result (λ p. Parents n end bytes.now (Ok (p.0.now, p.1.now))) (λ f. Parents n end bytes.now (Err f)) }
-{
-    if bytes.len() < n as usize {
-        return Err(Fault::Missing(end));
+    // Reads the parents of n items and tests that they make a tree.
+    pub(crate) fn parents(&mut self, n: u8) -> Result<&'a [u8], Fault>
+        requires { n ≤ 64 }
+        ensures { Gives (Parents n) (λ ps. ps.now) self.old self.new result }
+    {
+        let Some((parents, rest)) = self.bytes.split_at_checked(n as usize) else {
+            return Err(Fault::Missing(self.end));
+        };
+        if let Some(i) = first_unrooted(parents) {
+            return Err(Fault::Tree(self.place(i)));
+        }
+        self.bytes = rest;
+        Ok(parents)
     }
-    let (parents, rest) = bytes.split_at(n as usize);
-    if let Some(i) = first_unrooted(parents) {
-        return Err(Fault::Tree(end - bytes.len() + i));
-    }
-    Ok((parents, rest))
-}
 
-// Reads the note, which ends the file, and answers it.
-pub(crate) fn read_note(bytes: &[u8], end: usize) -> Result<&[u8], Fault>
-    requires { length bytes.now ≤ end }
-    ensures { MatchResult result (λ p. Note end bytes.now (Ok (p.now, []))) (λ f. Note end bytes.now (Err f)) }
-{
-    let [high, low, note @ ..] = bytes else {
-        return Err(Fault::Missing(end));
-    };
-    let length = *high as usize * 256 + *low as usize;
-    if length > 1000 {
-        return Err(Fault::Tail(end - bytes.len()));
+    // Reads one state's record and leaves the rest of the file to the next.
+    fn record(&mut self, limits: Limits) -> Result<State, Fault>
+        ensures { Gives (StateRecord limits.items limits.codes limits.states) (λ s. s) self.old self.new result }
+    {
+        let [item, code, o0, o1, o2, o3, count, a0, a1, a2, a3, rest @ ..] = self.bytes else {
+            return Err(Fault::Missing(self.end));
+        };
+        let state = State {
+            item: *item,
+            code: *code,
+            operand: i32::from_be_bytes([*o0, *o1, *o2, *o3]),
+            arc_count: *count,
+            arcs: [*a0, *a1, *a2, *a3],
+        };
+        if let Some(k) = limits.wrong_byte(state) {
+            return Err(Fault::Record(self.place(k)));
+        }
+        self.bytes = rest;
+        Ok(state)
     }
-    if note.len() < length {
-        return Err(Fault::Missing(end));
+
+    // Reads as many records as a type has states.
+    fn records(&mut self, limits: Limits) -> Result<StateRow, Fault>
+        requires { limits.states ≤ 32 }
+        ensures { Gives (λ end. Several (StateRecord limits.items limits.codes limits.states end) limits.states) (λ xs. xs) self.old self.new result }
+    {
+        let mut states = StateRow::empty();
+        for _s in 0..limits.states {
+            states.push(self.record(limits)?);
+        }
+        Ok(states)
     }
-    if note.len() > length {
-        return Err(Fault::Tail(end - bytes.len() + 2 + length));
+
+    // Reads one job type: the number of its states, their records, and whether they hang together.
+    fn job_type(&mut self, sizes: Sizes) -> Result<StateRow, Fault>
+        ensures { Gives (TypePart sizes.items sizes.codes) (λ xs. xs) self.old self.new result }
+    {
+        let count = self.count(32)?;
+        let states = self.records(Limits {
+            items: sizes.items,
+            codes: sizes.codes,
+            states: count,
+        })?;
+        if let Some(s) = first_stray(states.as_slice()) {
+            return Err(Fault::Stray(self.place(0) - 11 * (count as usize - s)));
+        }
+        Ok(states)
     }
-    Ok(note)
+
+    // Reads the job types.
+    // One function with `records` would take the reader of one part as a closure, for a loop of one line.
+    pub(crate) fn job_types(&mut self, sizes: Sizes) -> Result<TypeRow, Fault>
+        requires { sizes.types ≤ 8 }
+        ensures { Gives (λ end. Several (TypePart sizes.items sizes.codes end) sizes.types) (λ xs. xs) self.old self.new result }
+    {
+        let mut types = TypeRow::empty();
+        for _t in 0..sizes.types {
+            types.push(self.job_type(sizes)?);
+        }
+        Ok(types)
+    }
+
+    // Reads the note, which ends the file.
+    pub(crate) fn note(self) -> Result<&'a [u8], Fault>
+        ensures { MatchResult result (λ n. Note self.entry.end self.entry.bytes.now (Ok (n.now, []))) (λ f. Note self.entry.end self.entry.bytes.now (Err f)) }
+    {
+        let [high, low, note @ ..] = self.bytes else {
+            return Err(Fault::Missing(self.end));
+        };
+        let length = usize::from(u16::from_be_bytes([*high, *low]));
+        if length > 1000 {
+            return Err(Fault::Tail(self.place(0)));
+        }
+        if note.len() < length {
+            return Err(Fault::Missing(self.end));
+        }
+        if note.len() > length {
+            return Err(Fault::Tail(self.place(2 + length)));
+        }
+        Ok(note)
+    }
 }

@@ -2,7 +2,8 @@
 ghost use Rattle.std.specs.Prelude.{pos, IfOk};
 ghost use Rattle.workload.specs.View.{Single};
 
-use crate::definition::{JobType, Workload};
+use crate::definition::Workload;
+use crate::row::StateRow;
 use rules::state::State;
 use rules::tree::ROOT_MARK;
 use std::alloc::{AllocError, Global};
@@ -17,13 +18,11 @@ impl Workload {
             code: 0,
             operand,
             arc_count: 0,
-            arcs: [0, 0, 0, 0],
+            arcs: [0; 4],
         };
-        let parents = vec![in heap; ROOT_MARK]?;
-        let states = vec![in heap; state]?;
-        let types = vec![in heap; JobType { states }]?;
-        let workload = Workload::of_parts(heap, parents, 1, types)?;
-        Ok(workload)
+        let mut states = StateRow::empty();
+        states.push(state);
+        Workload::of_parts(heap, &[ROOT_MARK], 1, &[states])
     }
 
     // The workload to start from: one item, one code, and one type of one terminal state with operand 0.

@@ -1,29 +1,31 @@
-use Rattle.std.proofs.Common.{vec_items, arith}
-use Rattle.workload.proofs.Keeping.{kept_slices, lawful_slices}
-use Rattle.workload.specs.Types.{all_states}
+use Rattle.std.proofs.Common.{ℕ, List, vec_items, sym, subst₂, arith}
+use Rattle.rules.specs.declared.state.State.{State}
+use Rattle.rules.specs.Lawful.{Lawful}
+use Rattle.rules.specs.Plans.{Kept}
+use Rattle.rules.specs.View.{workload_of}
+use Rattle.workload.specs.Types.{all_plans, all_states}
 use Rattle.workload.proofs.Lists.{few_arcs, four_bytes, length_all}
 use Rattle.workload.proofs.definition.Workload.of_parts.Goals as goal
 
-pub plans_of-requires : goal.plans_of-requires
-plans_of-requires c = (
-  c.args.code_count,
-  lawful_slices c.as_slice.result.now (vec_items c.args.parents) c.as_slice-2.result.now (vec_items c.args.types) c.as_slice.ensures.value c.as_slice-2.ensures.value c.args.code_count c.requires,
-)
-
 pub invariant_of-result : goal.invariant_of-result
 invariant_of-result c =
-    let n = c.args.parents.ok.0 in
-    let m = c.args.types.ok.0 in
-    let k = length_all (vec_items c.args.types) in
-    let l = c.requires in
-    let plans = kept_slices c.as_slice.result.now (vec_items c.args.parents) c.as_slice-2.result.now (vec_items c.args.types) (vec_items c.in_ok-plans.plans) c.as_slice.ensures.value c.as_slice-2.ensures.value
-    c.in_ok-plans.ensures c.args.code_count l in
+    let n = c.args.code_count in
+    let ps = vec_items c.in_ok-parents.parents in
+    let all = vec_items c.in_ok-types.types in
+    let same = sym c.in_ok-parents.ensures.items in
+    let read = sym c.in_ok-types.ensures.states in
+    let l : Lawful ps n (all_states all) = subst₂ (λ (x : List ℕ) (y : List (List State)). Lawful x n y) same read c.requires in
+    let k : Kept (workload_of ps n (all_states all)) (all_plans all) =
+    subst₂ (λ (x : List ℕ) (y : List (List State)). Kept (workload_of x n y) (all_plans all)) same read (c.in_ok-types.ensures.plans n c.requires) in
+    let p = c.in_ok-parents.parents.ok.0 in
+    let t = c.in_ok-types.types.ok.0 in
+    let m = length_all all in
     record {
       items = (omega (arith, l.items.0), omega (arith, l.items.1));
       some = (omega (arith, l.types.0), omega (arith, l.types.1));
       counted = omega arith;
-      few = few_arcs (vec_items c.args.parents) c.args.code_count (all_states (vec_items c.args.types)) l;
-      four = four_bytes (vec_items c.args.parents) c.args.code_count (all_states (vec_items c.args.types)) l;
+      few = few_arcs ps n (all_states all) l;
+      four = four_bytes ps n (all_states all) l;
       lawful = ∣ l ∣₁;
-      planned = ∣ plans ∣₁;
+      planned = ∣ k ∣₁;
     }

@@ -1,6 +1,0 @@
-use Rattle.std.proofs.Common.{ℕ, ◌<◌, get_or}
-use Rattle.workload.specs.Format.{RightArc}
-use Rattle.workload.proofs.read.wrong_byte.Given as goal
-
-abbrev pub invariant-loop-j : goal.invariant-loop-j
-invariant-loop-j l = (j : ℕ) → j < l.j → RightArc l.limits.states l.state.arc_count j (get_or l.state.arcs j 0)

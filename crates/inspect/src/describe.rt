@@ -56,10 +56,8 @@ fn tree(rt: &HostRuntime, workload: &Workload) -> io::Result<()> {
 // The local lock tree of a type.
 fn local_tree(rt: &HostRuntime, workload: &Workload, t: u8) -> io::Result<()> {
     println!(rt; "  local lock tree:")?;
-    if let Some(root) = local_root(workload, t) {
-        if let Some(items) = local_items(workload, t) {
-            subtree(rt, workload, items, root, 1, workload.item_count())?;
-        }
+    if let (Some(root), Some(items)) = (local_root(workload, t), local_items(workload, t)) {
+        subtree(rt, workload, items, root, 1, workload.item_count())?;
     }
     Ok(())
 }
@@ -71,10 +69,8 @@ fn set_line(rt: &HostRuntime, name: &str, set: Option<ItemSet>) -> io::Result<()
         return println!(rt; "    {name}: none");
     }
     print!(rt; "    {name}:")?;
-    for item in 0..64u8 {
-        if items.contains(item) {
-            print!(rt; " {item}")?;
-        }
+    for item in (0..64u8).filter(|item| items.contains(*item)) {
+        print!(rt; " {item}")?;
     }
     println!(rt)
 }
@@ -98,8 +94,7 @@ fn state_lines(rt: &HostRuntime, workload: &Workload, t: u8, s: u8) -> io::Resul
             item,
             code,
             operand,
-            arc_count: _,
-            arcs: _,
+            ..
         } = state;
         print!(rt; "  state {s}: item {item}, code {code}, operand {operand}")?;
         arcs(rt, &state)?;

@@ -9,6 +9,7 @@ use crate::copy::copy_file;
 use crate::describe::describe;
 use crate::refusal::refuse;
 use anyhow::anyhow;
+use std::alloc::AllocError;
 use std::{env, fs};
 use workload::definition::Workload;
 use workload::file::read;
@@ -23,11 +24,8 @@ enum Task {
 }
 
 // The path given as an argument, or `work.tlw` in the current folder.
-fn path_or_default(rt: &HostRuntime, given: Option<String>) -> anyhow::Result<String> {
-    match given {
-        Some(path) => Ok(path),
-        None => Ok(String::from_str(rt.alloc(), "work.tlw")?),
-    }
+fn path_or_default(rt: &HostRuntime, given: Option<String>) -> Result<String, AllocError> {
+    given.map_or_else(|| String::from_str(rt.alloc(), "work.tlw"), Ok)
 }
 
 // Reads `[FILE]` or `--copy OUT [FILE]`.
@@ -48,10 +46,7 @@ fn asked(rt: &HostRuntime) -> anyhow::Result<Task> {
 
 // The bytes of a file; a missing or unreadable file counts as an empty one.
 fn bytes(rt: &HostRuntime, path: &str) -> Vec<u8> {
-    match fs::read(rt, path) {
-        Ok(found) => found,
-        Err(_) => Vec::new(rt.alloc()),
-    }
+    fs::read(rt, path).unwrap_or_else(|_| Vec::new(rt.alloc()))
 }
 
 // Tells what a file holds.

@@ -1,4 +1,5 @@
 // The sets of a job type and its local lock tree: each call looks up what the workload keeps, and walks no graph.
+// The calls differ in the field that they look up and in the definition that it answers; one over both would say less.
 #![tactic(auto)]
 
 ghost use Rattle.std.specs.Prelude.{◌<◌};
@@ -27,8 +28,7 @@ fn plan_at(workload: &Workload, t: u8, s: u8) -> Option<&Plan>
 pub fn unreachable(workload: &Workload, t: u8, s: u8) -> Option<ItemSet>
     ensures { Answers result (HasState (view workload.now) t s) (ItemsOf (view workload.now) (Unreachable (view workload.now) t s)) }
 {
-    let plan = plan_at(workload, t, s)?;
-    Some(plan.unreachable[s as usize])
+    plan_at(workload, t, s).map(|plan| plan.unreachable[s as usize])
 }
 
 // The unlockable set of state s of type t: the items that a job has just left behind for good when it comes to s.
@@ -36,8 +36,7 @@ pub fn unreachable(workload: &Workload, t: u8, s: u8) -> Option<ItemSet>
 pub fn unlockable(workload: &Workload, t: u8, s: u8) -> Option<ItemSet>
     ensures { Answers result (HasState (view workload.now) t s) (ItemsOf (view workload.now) (Unlockable (view workload.now) t s)) }
 {
-    let plan = plan_at(workload, t, s)?;
-    Some(plan.unlockable[s as usize])
+    plan_at(workload, t, s).map(|plan| plan.unlockable[s as usize])
 }
 
 // The local root of type t: the deepest item that is, or lies above, every item that the type names.
@@ -45,14 +44,12 @@ pub fn unlockable(workload: &Workload, t: u8, s: u8) -> Option<ItemSet>
 pub fn local_root(workload: &Workload, t: u8) -> Option<u8>
     ensures { Answers result (t < (view workload.now).types) (LocalRoot (view workload.now) t) }
 {
-    let plan = workload.plan(t)?;
-    Some(plan.root)
+    workload.plan(t).map(|plan| plan.root)
 }
 
 // The items of the local lock tree of type t. Nothing where there is no such type.
 pub fn local_items(workload: &Workload, t: u8) -> Option<ItemSet>
     ensures { Answers result (t < (view workload.now).types) (ItemsOf (view workload.now) (Local (view workload.now) t)) }
 {
-    let plan = workload.plan(t)?;
-    Some(plan.local)
+    workload.plan(t).map(|plan| plan.local)
 }

@@ -1,16 +1,14 @@
 // Writing a workload file.
 ghost use Rattle.std.specs.Prelude.{◌≡◌, ◌*◌, ◌≤◌, length};
-ghost use Rattle.std.specs.List.{flat_map};
 ghost use Rattle.workload.specs.Encoding.{type_bytes};
 ghost use Rattle.workload.specs.Files.{file_of};
-ghost use Rattle.workload.specs.Types.{all_states};
 ghost use Rattle.writing.specs.Files.{Stands, Written};
-ghost use Rattle.writing.specs.Puts.{AllPacked, Storable, header_of};
+ghost use Rattle.writing.specs.Puts.{AllPacked, header_of, types_bytes};
 
-use crate::put::{put, put_note, put_types};
+use crate::put::Writer;
 use crate::refusal::WriteRefusal;
 use rules::state::State;
-use workload::definition::{JobType, Workload};
+use workload::definition::Workload;
 
 // How many bytes a type takes: the number of its states, and eleven for each.
 fn type_length(states: &[State]) -> usize
@@ -23,26 +21,22 @@ fn type_length(states: &[State]) -> usize
 }
 
 // How many bytes the job types take.
-fn types_length(types: &[JobType]) -> usize
-    requires { Storable (all_states types.now) }
-    ensures value { result ≡ length (flat_map type_bytes (all_states types.now)) }
+fn types_length(workload: &Workload) -> usize
+    ensures value { result ≡ length (types_bytes workload.now) }
     ensures high { result ≤ 8 * 353 }
 {
     let mut length = 0;
-    for t in 0..types.len() {
-        length += type_length(types[t].states.as_slice());
+    for ty in workload.job_types() {
+        length += type_length(ty.states.as_slice());
     }
     length
 }
 
 // How many bytes the file of a workload and a note takes.
 fn file_length(workload: &Workload, note: &[u8]) -> usize
-    requires { length note.now ≤ 1000 }
     ensures { result ≡ length (file_of workload.now note.now) }
 {
-    let parents = workload.parent_bytes();
-    let types = workload.job_types();
-    10 + parents.len() + types_length(types) + note.len()
+    10 + workload.parent_bytes().len() + types_length(workload) + note.len()
 }
 
 // The fields before the parents: mark, version and the three counts.
@@ -61,12 +55,12 @@ fn put_file(buffer: &mut [u8], workload: &Workload, note: &[u8]) -> usize
     requires room { length (file_of workload.now note.now) ≤ length buffer.old }
     ensures { Stands (file_of workload.now note.now) buffer.old buffer.new result }
 {
-    let parents = workload.parent_bytes();
-    let types = workload.job_types();
-    let at = put(buffer, 0, &header(workload));
-    let at = put(buffer, at, parents);
-    let at = put_types(buffer, at, types);
-    put_note(buffer, at, note)
+    let mut writer = Writer { buffer, at: 0 };
+    writer.put(&header(workload));
+    writer.put(workload.parent_bytes());
+    writer.put_types(workload);
+    writer.put_note(note);
+    writer.at
 }
 
 // Writes the workload and the note at the front of the buffer and answers the length of the file.

@@ -1,6 +1,7 @@
 // Why a file is not written, or a file or a workload not taken round.
 ghost use Rattle.std.specs.Prelude.{◌≡◌};
 ghost use Rattle.writing.specs.Numbers.{write_number};
+ghost use Rattle.writing.specs.declared.refusal.TripRefusal.TheVariants.{Reading, Writing};
 
 use workload::fault::Fault;
 
@@ -14,7 +15,7 @@ pub enum WriteRefusal {
 }
 
 impl WriteRefusal {
-    // The number by which the refusal is told.
+    // The number by which the refusal is told. A method says what the number is, which a `u8::from` would not.
     pub fn number(self) -> u8
         ensures { result ≡ write_number self }
     {
@@ -30,4 +31,20 @@ impl WriteRefusal {
 pub enum TripRefusal {
     Reading(Fault),
     Writing(WriteRefusal),
+}
+
+impl From<Fault> for TripRefusal {
+    ghost from_gives = { λ fault r. r ≡ Reading fault };
+
+    fn from(fault: Fault) -> TripRefusal {
+        TripRefusal::Reading(fault)
+    }
+}
+
+impl From<WriteRefusal> for TripRefusal {
+    ghost from_gives = { λ refusal r. r ≡ Writing refusal };
+
+    fn from(refusal: WriteRefusal) -> TripRefusal {
+        TripRefusal::Writing(refusal)
+    }
 }

@@ -21,9 +21,7 @@ fn write_again(
     ensures read { Holds file.now workload.now }
     ensures copied { Copied file.now buffer.old buffer.new result }
 {
-    let Some(text) = note(file, span) else {
-        unreachable()
-    };
+    let text = note(file, span).unwrap();
     write(workload, text, buffer)
 }
 
@@ -36,13 +34,8 @@ pub fn read_and_write(
 ) -> Result<usize, TripRefusal>
     ensures { Rewritten file.now buffer.old buffer.new workload.old workload.new result }
 {
-    match read(heap, file, workload) {
-        Ok(span) => match write_again(workload, file, span, buffer) {
-            Ok(length) => Ok(length),
-            Err(refusal) => Err(TripRefusal::Writing(refusal)),
-        },
-        Err(fault) => Err(TripRefusal::Reading(fault)),
-    }
+    let span = read(heap, file, workload)?;
+    Ok(write_again(workload, file, span, buffer)?)
 }
 
 // Reads the file at the front of a buffer: whichever workload and note were written there are read again.
@@ -68,11 +61,6 @@ pub fn write_and_read(
 ) -> Result<NoteSpan, TripRefusal>
     ensures { Reread workload.now note.now buffer.old buffer.new copy.old copy.new result }
 {
-    match write(workload, note, buffer) {
-        Ok(end) => match read_again(heap, buffer, end, copy) {
-            Ok(span) => Ok(span),
-            Err(fault) => Err(TripRefusal::Reading(fault)),
-        },
-        Err(refusal) => Err(TripRefusal::Writing(refusal)),
-    }
+    let end = write(workload, note, buffer)?;
+    Ok(read_again(heap, buffer, end, copy)?)
 }

@@ -1,4 +1,4 @@
-use borrow.Author.Rules.{rules}
+use Rattle.std.proofs.Common.{rules}
 use Rattle.sets.proofs.Within.{local_item}
 use Rattle.sets.proofs.local_items.Goals as goal
 

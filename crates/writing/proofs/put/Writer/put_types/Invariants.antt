@@ -1,0 +1,9 @@
+use Rattle.std.proofs.Common.{take, vec_items}
+use Rattle.std.specs.List.{flat_map}
+use Rattle.workload.specs.Encoding.{type_bytes}
+use Rattle.workload.specs.Types.{all_states}
+use Rattle.writing.specs.Puts.{Adds}
+use Rattle.writing.proofs.put.Writer.put_types.Given as goal
+
+abbrev pub invariant-loop-ty : goal.invariant-loop-ty
+invariant-loop-ty l = Adds l.initial.self (flat_map type_bytes (take l.ty-index (all_states (vec_items l.fn.workload.types)))) l.self

@@ -1,83 +1,62 @@
 -- Look-ups in a plan decide what may go.
-use Rattle.std.proofs.Common.{◌≡◌, ℕ, ◌<◌, ◌≤◌, min, Bool, true, false, not, ◌&&◌, ◌||◌, ltb, ◌⊎◌, get_or, Decides, sym, ap, ◌∙◌, inl, inr, arith}
-use Rattle.std.proofs.lemmas.Bool.{and_cases, and_from, and_parts, both_ways, cases_Bool, le-ltb, ltb-false, not-false, not_from_false, not-true, or_cases, or_left, or_right}
+use Rattle.std.proofs.Common.{◌≡◌, ℕ, ◌<◌, true, false, not, ◌&&◌, ◌||◌, ◌⊎◌, ◌↔◌, get_or, sym, ◌∙◌, inl, inr}
+use Rattle.std.proofs.lemmas.Bool.{and_cases, and_from, and_left, and_parts, and_right, both_ways, false_from_ne_true, not-false, not-true, not_from_false, not_from_true, or_cases, or_left, or_right}
 use Rattle.model.specs.Workload.{Workload, LocalChild, Named}
 use Rattle.model.specs.Table.{MayGo}
 use Rattle.itemset.specs.declared.ItemSet.{ItemSet}
 use Rattle.itemset.specs.Members.{holds, nothing}
+use Rattle.rules.specs.Plans.{Planned}
 use Rattle.rules.specs.declared.plan.Plan.{Plan}
 use Rattle.jobs.specs.declared.record.JobRecord.{JobRecord}
-use Rattle.jobs.specs.Under.{Under}
 use Rattle.jobs.specs.View.{job_view}
 
-module _ (W : Workload) (R : JobRecord) (p : Plan) (u : Under W (job_view R) p) where
-  module _ (d : ℕ) (needed idle : ItemSet)
-      (n : (e : ℕ) → holds needed e ≡ (holds p.named e && not (holds R.done e)))
-      (i : (e : ℕ) → holds idle e ≡ (holds R.held e && not (holds needed e))) where
-    -- held and not needed
-    idle_from : MayGo W (job_view R) d → holds idle d ≡ true
-    idle_from g =
-        let free : holds needed d ≡ false = elim (cases_Bool (holds needed d)) [
-          | inl e ↦ (let q = and_parts (holds p.named d) (not (holds R.done d)) (sym (n d) ∙ e) in
-              elim g.unneeded [
-                | inl k ↦ absurd (both_ways (holds R.done d) (not-true (holds R.done d) q.1) (k))
-                | inr k ↦ absurd (k ((u.planned.named d).0 q.0))
-              ])
-          | inr e ↦ e
-        ] in
-        i d ∙ and_from (holds R.held d) (not (holds needed d)) g.is_held (not_from_false (holds needed d) free)
+-- d is an idle item whose children have all passed
+abbrev pub IdleAndPassed : Plan → ItemSet → ItemSet → ℕ → Type 0
+IdleAndPassed p idle passed d = (holds idle d ≡ true) × ((c : ℕ) → holds (get_or p.children d nothing) c ≡ true → holds passed c ≡ true)
 
-    pub not_idle : holds idle d ≡ false → MayGo W (job_view R) d → ⊥
-    not_idle e g = both_ways (holds idle d) e (idle_from g)
+module _ (W : Workload) (R : JobRecord) (p : Plan) (plan_of_type : Planned W R.job_type p)
+    (held_low : (x : ℕ) → holds R.held x ≡ true → x < W.items)
+    (needed idle both passed : ItemSet)
+    (n : (e : ℕ) → holds needed e ≡ (holds p.named e && not (holds R.done e)))
+    (i : (e : ℕ) → holds idle e ≡ (holds R.held e && not (holds needed e)))
+    (b : (e : ℕ) → holds both e ≡ (holds p.leaves e && holds R.done e))
+    (a : (e : ℕ) → holds passed e ≡ (holds R.locked e || holds both e)) where
+  child : (d c : ℕ) → holds R.held d ≡ true → (holds (get_or p.children d nothing) c ≡ true) ↔ LocalChild W R.job_type d c
+  child d c h = plan_of_type.children d (held_low d h) c
 
-    module _ (h : holds idle d ≡ true) where
-      is_held : holds R.held d ≡ true
-      is_held = (and_parts (holds R.held d) (not (holds needed d)) (sym (i d) ∙ h)).0
+  unneeded : (d : ℕ) → holds needed d ≡ false → (holds R.done d ≡ true) ⊎ ¬ Named W R.job_type d
+  unneeded d f =
+      elim (and_cases (holds p.named d) (not (holds R.done d)) (sym (n d) ∙ f)) [
+        | inl e ↦ inr (λ k. both_ways (holds p.named d) e ((plan_of_type.named d).1 k))
+        | inr e ↦ inl (not-false (holds R.done d) e)
+      ]
 
-      unneeded : (holds R.done d ≡ true) ⊎ ¬ Named W R.job_type d
-      unneeded =
-          let f = not-true (holds needed d) (and_parts (holds R.held d) (not (holds needed d)) (sym (i d) ∙ h)).1 in
-          elim (and_cases (holds p.named d) (not (holds R.done d)) (sym (n d) ∙ f)) [
-            | inl e ↦ inr (λ k. both_ways (holds p.named d) e ((u.planned.named d).1 k))
-            | inr e ↦ inl (not-false (holds R.done d) e)
-          ]
+  not_needed : (d : ℕ) → (holds R.done d ≡ true) ⊎ ¬ Named W R.job_type d → holds needed d ≡ false
+  not_needed d u = n d ∙ elim u [
+    | inl e ↦ and_right (holds p.named d) (not (holds R.done d)) (not_from_true (holds R.done d) e)
+    | inr k ↦ and_left (holds p.named d) (not (holds R.done d)) (false_from_ne_true (holds p.named d) (λ e. k ((plan_of_type.named d).0 e)))
+  ]
 
-      module _ (both passed : ItemSet) (b : (e : ℕ) → holds both e ≡ (holds p.leaves e && holds R.done e))
-          (a : (e : ℕ) → holds passed e ≡ (holds R.locked e || holds both e))
-          (r : Bool) (s : Decides r ((e : ℕ) → holds (get_or p.children d nothing) e ≡ true → holds passed e ≡ true)) where
-        pub idle_goes : Decides r (MayGo W (job_view R) d)
-        idle_goes = (to, from)
-          where
-            child : (c : ℕ) → Decides (holds (get_or p.children d nothing) c) (LocalChild W R.job_type d c)
-            child c = u.planned.children d (u.items d is_held) c
+  goes : (d : ℕ) → IdleAndPassed p idle passed d → MayGo W (job_view R) d
+  goes d f =
+      let q = and_parts (holds R.held d) (not (holds needed d)) (sym (i d) ∙ f.0) in
+      record {
+        is_held = q.0;
+        unneeded = unneeded d (not-true (holds needed d) q.1);
+        passed = λ c k. elim (or_cases (holds R.locked c) (holds both c) (sym (a c) ∙ f.1 c ((child d c q.0).1 k))) [
+          | inl x ↦ inl x
+          | inr x ↦ (let q = and_parts (holds p.leaves c) (holds R.done c) (sym (b c) ∙ x) in inr ((plan_of_type.leaves c).0 q.0, q.1))
+        ];
+      }
 
-            to : r ≡ true → MayGo W (job_view R) d
-            to e =
-                record {
-                  is_held = is_held;
-                  unneeded = unneeded;
-                  passed = λ c k. elim (or_cases (holds R.locked c) (holds both c) (sym (a c) ∙ s.0 e c ((child c).1 k))) [
-                    | inl x ↦ inl x
-                    | inr x ↦ (let q = and_parts (holds p.leaves c) (holds R.done c) (sym (b c) ∙ x) in inr ((u.planned.leaves c).0 q.0, q.1))
-                  ];
-                }
+  found : (d : ℕ) → MayGo W (job_view R) d → IdleAndPassed p idle passed d
+  found d g = (
+    i d ∙ and_from (holds R.held d) (not (holds needed d)) g.is_held (not_from_false (holds needed d) (not_needed d g.unneeded)),
+    λ c k. a c ∙ elim (g.passed c ((child d c g.is_held).0 k)) [
+      | inl x ↦ or_left (holds R.locked c) (holds both c) x
+      | inr x ↦ or_right (holds R.locked c) (holds both c) (b c ∙ and_from (holds p.leaves c) (holds R.done c) ((plan_of_type.leaves c).1 x.0) x.1)
+    ],
+  )
 
-            from : MayGo W (job_view R) d → r ≡ true
-            from g = s.1 (λ c k. a c ∙ elim (g.passed c ((child c).0 k)) [
-              | inl x ↦ or_left (holds R.locked c) (holds both c) x
-              | inr x ↦ or_right (holds R.locked c) (holds both c) (b c ∙ and_from (holds p.leaves c) (holds R.done c) ((u.planned.leaves c).1 x.0) x.1)
-            ])
-
--- what is left of a set from a number on
-module _ (whole below rest : ItemSet) (from : ℕ) (low : from < 64) (b : (e : ℕ) → holds below e ≡ ltb e (min from 64))
-    (r : (e : ℕ) → holds rest e ≡ (holds whole e && not (holds below e))) where
-  below_is : (x : ℕ) → holds below x ≡ ltb x from
-  below_is x = let m : min from 64 ≡ from = omega arith in b x ∙ ap (λ (n : ℕ). ltb x n) m
-
-  pub left_in : (x : ℕ) → holds whole x ≡ true → from ≤ x → holds rest x ≡ true
-  left_in x h l = r x ∙ and_from (holds whole x) (not (holds below x)) h (not_from_false (holds below x) (below_is x ∙ le-ltb x from l))
-
-  pub left_out : (x : ℕ) → holds rest x ≡ true → from ≤ x
-  left_out x h =
-      let q = and_parts (holds whole x) (not (holds below x)) (sym (r x) ∙ h) in
-      ltb-false x from (sym (below_is x) ∙ not-true (holds below x) q.1)
+  pub decides_going : (d : ℕ) → IdleAndPassed p idle passed d ↔ MayGo W (job_view R) d
+  decides_going d = (goes d, found d)

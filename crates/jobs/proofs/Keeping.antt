@@ -1,5 +1,5 @@
 -- A change at one place keeps what holds of every record.
-use Rattle.std.proofs.Common.{◌≡◌, ℕ, ◌<◌, false, List, length, get_or, set, ℤ, sym, ap, ◌∙◌, subst, inl, inr, arith, get_or-set_other, get_or-set_same}
+use Rattle.std.proofs.Common.{◌≡◌, ℕ, ◌<◌, false, List, length, get_or, set, ℤ, Some, None, Option, sym, ap, ◌∙◌, subst, inl, inr, arith, get_or-set_other, get_or-set_same}
 use mathlib.Core.Logic.{∥∥₁_map}
 use mathlib.Core.Option.{some}
 use native.Mathlib.Decide.{ℕ_discrete}
@@ -13,25 +13,20 @@ use Rattle.model.proofs.Job.{good_new, good_not_awaited, good_ended, good_held, 
 use Rattle.model.proofs.History.{some_same, none_some}
 use Rattle.jobs.specs.View.{job_view, place_view, places_view, Sound, PlaceSound, AllSound}
 use Rattle.jobs.specs.declared.record.JobRecord.{JobRecord}
-use Rattle.jobs.specs.declared.record.Place.{Place}
-use Rattle.jobs.specs.declared.record.Place.TheVariants.{Empty, Taken}
 
-pub place_set : (ps : List Place) (i : ℕ) (x : Place) → i < length ps → places_view (set ps i x) i ≡ place_view x
-place_set ps i x l = ap place_view (get_or-set_same ps i x Empty l)
+pub place_set : (ps : List (Option JobRecord)) (i : ℕ) (x : Option JobRecord) → i < length ps → places_view (set ps i x) i ≡ place_view x
+place_set ps i x l = ap place_view (get_or-set_same ps i x None l)
 
-pub place_other : (ps : List Place) (i q : ℕ) (x : Place) → ¬ (q ≡ i) → places_view (set ps i x) q ≡ places_view ps q
-place_other ps i q x n = ap place_view (get_or-set_other ps i q x Empty n)
+pub place_other : (ps : List (Option JobRecord)) (i q : ℕ) (x : Option JobRecord) → ¬ (q ≡ i) → places_view (set ps i x) q ≡ places_view ps q
+place_other ps i q x n = ap place_view (get_or-set_other ps i q x None n)
 
-pub sound_set : (W : Workload) (ps : List Place) (i : ℕ) (x : Place) → i < length ps → PlaceSound W x → AllSound W ps → AllSound W (set ps i x)
+pub sound_set : (W : Workload) (ps : List (Option JobRecord)) (i : ℕ) (x : Option JobRecord) → i < length ps → PlaceSound W x → AllSound W ps → AllSound W (set ps i x)
 sound_set W ps i x l s a p J e = elim (ℕ_discrete p i) [
   | yes q ↦ s J (sym (place_set ps i x l) ∙ subst (λ (z : ℕ). places_view (set ps i x) z ≡ some J) q e)
   | no n ↦ a p J (sym (place_other ps i p x n) ∙ e)
 ]
 
-pub sound_empty : (W : Workload) → PlaceSound W Empty
-sound_empty W J e = absurd (none_some e)
-
-pub sound_taken : (W : Workload) (J : Job) (x : Place) → place_view x ≡ some J → Sound W J → PlaceSound W x
+pub sound_taken : (W : Workload) (J : Job) (x : Option JobRecord) → place_view x ≡ some J → Sound W J → PlaceSound W x
 sound_taken W J x e s I f = subst (Sound W) (some_same (sym e ∙ f)) s
 
 module _ (W : Workload) (F : WellFormed W) where
@@ -60,11 +55,11 @@ module _ (W : Workload) (F : WellFormed W) where
     sound_step K H vs a new J' u st = ∥∥₁_map S (λ g. (g.0, good_step K H vs a new J' g.0 g.1 u st))
 
 -- only one of the sixteen places is taken
-pub taken_within : (ps : List Place) (p : ℕ) (R : JobRecord) → length ps ≡ 16 → Taken R ≡ get_or ps p Empty → p < 16
+pub taken_within : (ps : List (Option JobRecord)) (p : ℕ) (R : JobRecord) → length ps ≡ 16 → Some R ≡ get_or ps p None → p < 16
 taken_within ps p R l e = elim (cases_lt p 16) [
   | inl i ↦ i
-  | inr i ↦ absurd (none_some (ap place_view (sym (e ∙ get_or_past ps p Empty (omega arith)))))
+  | inr i ↦ absurd (none_some (ap place_view (sym (e ∙ get_or_past ps p None (omega arith)))))
 ]
 
-pub taken_view : (ps : List Place) (p : ℕ) (R : JobRecord) → Taken R ≡ get_or ps p Empty → places_view ps p ≡ some (job_view R)
+pub taken_view : (ps : List (Option JobRecord)) (p : ℕ) (R : JobRecord) → Some R ≡ get_or ps p None → places_view ps p ≡ some (job_view R)
 taken_view ps p R e = ap place_view (sym e)

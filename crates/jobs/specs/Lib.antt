@@ -1,3 +1,2 @@
 pub mod View
-pub mod Under
 pub mod Turns

@@ -1,14 +1,13 @@
 -- Records and places, as the definitions of the table have them.
-use Rattle.std.specs.Prelude.{◌≡◌, ℕ, Bool, true, false, List, slice_index_or}
-use Rattle.std.proofs.Math.Option.{Option, none, some}
+use Rattle.std.specs.Prelude.{◌≡◌, ℕ, Bool, true, false, List, Some, None, Option, slice_index_or}
+use Rattle.std.proofs.Math.Option.{none, some}
+use Rattle.std.proofs.Math.Option as math
 use Rattle.itemset.specs.Members.{holds}
 use Rattle.model.specs.Workload.{Workload}
 use Rattle.model.specs.Table.{Job}
 use Rattle.model.specs.Table as model
 use Rattle.model.specs.Sound.{Good}
 use Rattle.jobs.specs.declared.record.JobRecord.{JobRecord}
-use Rattle.jobs.specs.declared.record.Place.{Place}
-use Rattle.jobs.specs.declared.record.Place.TheVariants.{Empty, Taken}
 use Rattle.jobs.specs.declared.record.StepAnswer.{StepAnswer}
 use Rattle.jobs.specs.declared.record.StepAnswer.TheVariants.{Released, Worked, Locked, Waiting, Gone, Finished}
 
@@ -26,33 +25,33 @@ job_view r =
       awaited = r.awaited;
     }
 
-abbrev pub place_view : Place → Option Job
-place_view Empty = none
-place_view (Taken r) = some (job_view r)
+abbrev pub place_view : Option JobRecord → math.Option Job
+place_view None = none
+place_view (Some r) = some (job_view r)
 
 -- a place past the end is empty
-abbrev pub places_view : List Place → ℕ → Option Job
-places_view ps p = place_view (slice_index_or ps p Empty)
+abbrev pub places_view : List (Option JobRecord) → ℕ → math.Option Job
+places_view ps p = place_view (slice_index_or ps p None)
 
 -- what holds of a job after every list of calls
 abbrev pub Sound : Workload → Job → Type 0
 Sound W J = ∥ ((r : ℕ) × Good W r J) ∥₁
 
 -- of the job, if any, of a place
-abbrev pub PlaceSound : Workload → Place → Type 0
+abbrev pub PlaceSound : Workload → Option JobRecord → Type 0
 PlaceSound W x = (J : Job) → place_view x ≡ some J → Sound W J
 
 -- and of every job at a place
-abbrev pub AllSound : Workload → List Place → Type 0
+abbrev pub AllSound : Workload → List (Option JobRecord) → Type 0
 AllSound W ps = (p : ℕ) (J : Job) → places_view ps p ≡ some J → Sound W J
 
 -- the job at the place q holds the item d
-abbrev pub Holding : List Place → ℕ → ℕ → Type 0
+abbrev pub Holding : List (Option JobRecord) → ℕ → ℕ → Type 0
 Holding ps q d = (J : Job) × (places_view ps q ≡ some J) × (J.held d ≡ true)
 
-abbrev pub place_holds : Place → ℕ → Bool
-place_holds Empty d = false
-place_holds (Taken r) d = holds r.held d
+abbrev pub place_holds : Option JobRecord → ℕ → Bool
+place_holds None d = false
+place_holds (Some r) d = holds r.held d
 
 abbrev pub told_view : StepAnswer → model.Told
 told_view (Released d) = model.released d

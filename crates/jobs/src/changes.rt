@@ -1,13 +1,31 @@
-// What a step changes in a job's record.
+// A new record, and what a step or its owner changes in one.
 ghost use Rattle.std.specs.Prelude.{◌≡◌, ℕ, ◌<◌, ◌||◌};
 ghost use Rattle.itemset.specs.Members.{holds};
-ghost use Rattle.model.specs.Table.{With, Without, ended, holding, in_state, locking, with_register};
-ghost use Rattle.jobs.specs.View.{job_view};
+ghost use Rattle.model.specs.Table.{With, Without, ended, holding, in_state, locking, new_job, not_awaited, seat, with_register};
+ghost use Rattle.jobs.specs.View.{job_view, place_view};
 
 use crate::record::JobRecord;
 use itemset::ItemSet;
 
 impl JobRecord {
+    // A new job of a type, with its argument as the register.
+    pub(crate) fn new(job_type: u8, argument: i32) -> JobRecord
+        ensures { job_view result ≡ new_job job_type argument }
+    {
+        let none = ItemSet::empty();
+        JobRecord {
+            job_type,
+            state: 0,
+            worked: false,
+            register: argument,
+            held: none,
+            locked: none,
+            done: none,
+            finished: false,
+            awaited: true,
+        }
+    }
+
     // The job without the item d, which it held.
     pub(crate) fn released(self, d: u8) -> JobRecord
         ensures job { job_view result ≡ holding (job_view self) (holds result.held) }
@@ -68,6 +86,27 @@ impl JobRecord {
         JobRecord {
             finished: true,
             ..self
+        }
+    }
+
+    // The job, which nobody awaits any more.
+    pub(crate) fn left_alone(self) -> JobRecord
+        ensures { job_view result ≡ not_awaited (job_view self) }
+    {
+        JobRecord {
+            awaited: false,
+            ..self
+        }
+    }
+
+    // What stands at the job's place after its step: nothing, once it is finished and nobody awaits it.
+    pub(crate) fn seated(self) -> Option<JobRecord>
+        ensures { place_view result ≡ seat (job_view self) }
+    {
+        if self.finished && !self.awaited {
+            None
+        } else {
+            Some(self)
         }
     }
 }

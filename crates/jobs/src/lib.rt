@@ -1,9 +1,9 @@
 // Jobs: their records, one step of a job, and the sixteen places of a table.
 #![tactic(auto)]
 
+mod active;
 mod changes;
 mod going;
-mod look;
 mod places;
 pub mod record;
 pub mod shift;

@@ -2,7 +2,7 @@
 use itemset::ItemSet;
 
 // One job.
-#[derive(Clone, Copy)]
+#[derive(Clone, Copy, PartialEq, Eq, Debug)]
 pub struct JobRecord {
     pub job_type: u8,
     pub state: u8,
@@ -20,12 +20,6 @@ pub struct JobRecord {
     pub awaited: bool,
 }
 
-#[derive(Clone, Copy)]
-pub enum Place {
-    Empty,
-    Taken(JobRecord),
-}
-
 // What a step tells: an item, or the new state; of a wait also the place of the holder.
 #[derive(Clone, Copy, PartialEq, Eq, Debug)]
 pub enum StepAnswer {
@@ -35,4 +29,12 @@ pub enum StepAnswer {
     Waiting(u8, u8),
     Gone(u8),
     Finished,
+}
+
+// Why no job is entered at a place. The place is looked at first, then the type, then whether the place is taken.
+#[derive(Clone, Copy, PartialEq, Eq, Debug)]
+pub enum EnterError {
+    NoSuchPlace,
+    NoSuchType,
+    PlaceTaken,
 }

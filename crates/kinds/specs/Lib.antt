@@ -1,3 +1,4 @@
+pub mod Codes
 pub mod Tallies
 pub mod Slots
 pub mod View

@@ -3,9 +3,17 @@ use Rattle.std.specs.Prelude.{cond, ℕ, eqb, ℤ, pos, negsuc}
 use Rattle.std.specs.Int.Signed.{le_z}
 use Rattle.kinds.specs.declared.slot.Slot.{Slot}
 use Rattle.kinds.specs.declared.slot.Slot.TheVariants.{Free, Held}
+use Rattle.kinds.specs.declared.slot.SlotOperation.{SlotOperation}
+use Rattle.kinds.specs.declared.slot.SlotOperation.TheVariants.{AskHeld, Take, Lift}
 
 abbrev pub slot_codes : ℕ
 slot_codes = 3
+
+-- the code of an operation
+abbrev pub code_of : SlotOperation → ℕ
+code_of AskHeld = 0
+code_of Take = 1
+code_of Lift = 2
 
 -- a free slot shows as a number above all container numbers
 abbrev pub slot_number : Slot → ℤ

@@ -1,9 +1,18 @@
 -- A tally: a signed 32-bit number.
 use Rattle.std.specs.Prelude.{cond, ℕ, eqb, ℤ, pos, negsuc, ◌+ℤ◌, ◌-ℤ◌}
 use Rattle.std.specs.Int.Signed.{le_z}
+use Rattle.kinds.specs.declared.tally.TallyOperation.{TallyOperation}
+use Rattle.kinds.specs.declared.tally.TallyOperation.TheVariants.{Read, AddOperand, AddRegister, TakeOff}
 
 abbrev pub tally_codes : ℕ
 tally_codes = 4
+
+-- the code of an operation
+abbrev pub code_of : TallyOperation → ℕ
+code_of Read = 0
+code_of AddOperand = 1
+code_of AddRegister = 2
+code_of TakeOff = 3
 
 -- it shows as itself
 abbrev pub tally_number : ℤ → ℤ

@@ -5,10 +5,10 @@ ghost use Rattle.std.specs.Prelude.{◌≡◌, ℕ, ◌≤◌, ℤ};
 pub trait Kind {
     type Value: Copy;
 
+    // The number of operation codes.
     const CODES: u8;
 
-    // The number of operation codes, for clauses: these cannot name the constant.
-    ghost codes: { ℕ };
+    ghost CODES: { ℕ };
 
     // From a value, a code, an operand and a job's register to the new value and the new register.
     ghost acted: { Self.Value → ℕ → ℤ → ℤ → Self.Value × ℤ };
@@ -16,11 +16,8 @@ pub trait Kind {
     // The number that a value shows as.
     ghost number: { Self.Value → ℤ };
 
-    // The constant, with a contract: generic code learns of the constant itself nothing.
-    fn code_count() -> u8
-        ensures { result ≡ codes };
-
-    // The new value and the new register.
+    // The new value and the new register. Code, operand and register stay three arguments, here and in the stores:
+    // each kind takes them apart at once.
     fn act(value: Self::Value, code: u8, operand: i32, register: i32) -> (Self::Value, i32)
         ensures { result ≡ acted value code operand register };
 
@@ -28,5 +25,9 @@ pub trait Kind {
         ensures { result ≡ number value.now };
 
     // A code at or above the number of codes changes neither part.
-    ghost beyond: { (v : Self.Value) (code : ℕ) (operand register : ℤ) → codes ≤ code → acted v code operand register ≡ (v, register) };
+    ghost beyond: { (v : Self.Value) (code : ℕ) (operand register : ℤ) → CODES ≤ code → acted v code operand register ≡ (v, register) };
 }
+
+// What is said of a code that names no operation of a kind.
+#[derive(Clone, Copy, Debug, PartialEq, Eq)]
+pub(crate) struct NoOperation;

@@ -1,17 +1,43 @@
-ghost use Rattle.kinds.specs.Tallies.{tally_act, tally_codes, tally_number};
+ghost use Rattle.kinds.specs.Codes.{Decodes};
+ghost use Rattle.kinds.specs.Tallies.{code_of, tally_act, tally_codes, tally_number};
 ghost use Rattle.std.proofs.Common.{rules};
 
-use crate::kind::Kind;
+use crate::kind::{Kind, NoOperation};
 
 // The kind of a count that can go below zero. Its values are plain numbers.
 pub struct Tally;
+
+// What an act does to a tally, in the order of the codes.
+#[derive(Clone, Copy, Debug, PartialEq, Eq)]
+enum TallyOperation {
+    Read,
+    AddOperand,
+    AddRegister,
+    TakeOff,
+}
+
+impl TryFrom<u8> for TallyOperation {
+    type Error = NoOperation;
+
+    ghost try_from_gives = { Decodes code_of tally_codes };
+
+    fn try_from(code: u8) -> Result<Self, NoOperation> {
+        match code {
+            0 => Ok(TallyOperation::Read),
+            1 => Ok(TallyOperation::AddOperand),
+            2 => Ok(TallyOperation::AddRegister),
+            3 => Ok(TallyOperation::TakeOff),
+            _ => Err(NoOperation),
+        }
+    }
+}
 
 impl Kind for Tally {
     type Value = i32;
 
     const CODES: u8 = 4;
 
-    ghost codes = { tally_codes };
+    ghost CODES = { tally_codes };
 
     ghost acted = { tally_act };
 
@@ -19,21 +45,19 @@ impl Kind for Tally {
 
     ghost beyond = { Prim.search rules };
 
-    fn code_count() -> u8 {
-        Self::CODES
-    }
-
     fn act(value: i32, code: u8, operand: i32, register: i32) -> (i32, i32) {
-        match code {
-            0 => (value, value),
-            1 => {
+        let Ok(operation) = TallyOperation::try_from(code) else {
+            return (value, register);
+        };
+        match operation {
+            TallyOperation::Read => (value, value),
+            TallyOperation::AddOperand => {
                 let sum = value.saturating_add(operand);
                 (sum, sum)
             }
-            2 => (value.saturating_add(register), 0),
-            3 if value >= operand => (value.saturating_sub(operand), operand),
-            3 => (value, -1),
-            _ => (value, register),
+            TallyOperation::AddRegister => (value.saturating_add(register), 0),
+            TallyOperation::TakeOff if value >= operand => (value.saturating_sub(operand), operand),
+            TallyOperation::TakeOff => (value, -1),
         }
     }
 

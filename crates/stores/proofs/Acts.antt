@@ -1,8 +1,10 @@
 -- What an act at item i makes of a list: cut short, joined, and by `set`.
-use Rattle.std.proofs.Common.{◌≡◌, ℕ, zero, suc, ◌-◌, ◌<◌, ◌≤◌, List, [], ◌∷◌, ◌++◌, length, get_or, take, set, ℤ, Some, None, sym, refl, ap, ◌∙◌, arith}
-use Rattle.std.specs.Option.{option_map}
+use Rattle.std.proofs.Common.{◌≡◌, ℕ, zero, suc, ◌-◌, ◌<◌, ◌≤◌, List, [], ◌∷◌, ◌++◌, length, take, set, ℤ, Option, Some, None, sym, refl, ap, ◌∙◌, arith}
+use Rattle.std.specs.Borrow.{Bor}
+use Rattle.std.specs.Option.{option_copied, option_map}
+use Rattle.std.specs.Slice.{IsItemAt}
 use Rattle.std.specs.List.{slice_get}
-use Rattle.std.proofs.lemmas.Option.{slice_get_read, slice_get_past}
+use Rattle.std.proofs.lemmas.Option.{same_Some, slice_get_read, slice_get_past}
 use Rattle.stores.specs.Stores.{register_after, values_after}
 
 pub nth_take : {V : Type 0} (n : ℕ) (xs : List V) (i : ℕ) → i < n → slice_get (take n xs) i ≡ slice_get xs i
@@ -21,35 +23,34 @@ nth_right [] ys i h = ap (slice_get ys) (omega arith)
 nth_right (x ∷ xs) ys zero h = absurd (let z : ⊥ = omega arith in z)
 nth_right (x ∷ xs) ys (suc i) h = nth_right xs ys i (omega arith) ∙ ap (slice_get ys) (omega arith)
 
+-- what `get` lends at i is item i of the list, or nothing where there is none
+pub lent : {V : Type 0} (xs : List V) (i : ℕ) (r : Option (Bor V)) → IsItemAt xs i r → option_copied r ≡ slice_get xs i
+lent xs i None there = sym (slice_get_past xs i there.3)
+lent xs i (Some v) there = sym (slice_get_read xs (length xs) i v.now refl there.3.0 there.1)
+
 module _ {V : Type 0} (act : V → ℕ → ℤ → ℤ → V × ℤ) (code : ℕ) (operand register : ℤ) where
   abbrev after : List V → ℕ → List V
   after xs i = values_after act xs i code operand register
 
-  pub register_past : (xs : List V) (i : ℕ) → length xs ≤ i → register_after act xs i code operand register ≡ None
-  register_past xs i h = ap (option_map (λ v. (act v code operand register).1)) (slice_get_past xs i h)
+  -- where item i is v
+  pub register_at : (xs : List V) (i : ℕ) (v : V) → Some v ≡ slice_get xs i → Some (act v code operand register).1 ≡ register_after act xs i code operand register
+  register_at xs i v e = ap (option_map (λ w. (act w code operand register).1)) e
 
-  -- where v was read at item i, one of the first n
-  pub register_read
-      : (n : ℕ) (xs : List V) (i : ℕ) (v : V) → i < n → i < length xs → v ≡ get_or xs i v
-      → register_after act (take n xs) i code operand register ≡ Some (act v code operand register).1
-  register_read n xs i v l h e =
-      ap (option_map (λ w. (act w code operand register).1)) (nth_take n xs i l ∙ slice_get_read xs (length xs) i v refl h e)
+  pub after_at : (xs : List V) (i : ℕ) (v : V) → Some v ≡ slice_get xs i → set xs i (act v code operand register).0 ≡ after xs i
+  after_at [] i v e = refl
+  after_at (x ∷ xs) zero v e = ap (λ w. (act w code operand register).0 ∷ xs) (same_Some v x e)
+  after_at (x ∷ xs) (suc i) v e = ap (λ ys. x ∷ ys) (after_at xs i v e)
+
+  -- where there is no item i
+  pub after_none : (xs : List V) (i : ℕ) → None ≡ slice_get xs i → xs ≡ after xs i
+  after_none [] i e = refl
+  after_none (x ∷ xs) zero e = (cc)
+  after_none (x ∷ xs) (suc i) e = ap (λ ys. x ∷ ys) (after_none xs i e)
 
   pub after_length : (xs : List V) (i : ℕ) → length (after xs i) ≡ length xs
   after_length [] i = refl
   after_length (x ∷ xs) zero = refl
   after_length (x ∷ xs) (suc i) = ap suc (after_length xs i)
-
-  pub after_past : (xs : List V) (i : ℕ) → length xs ≤ i → after xs i ≡ xs
-  after_past [] i h = refl
-  after_past (x ∷ xs) zero h = absurd (let z : ⊥ = omega arith in z)
-  after_past (x ∷ xs) (suc i) h = ap (λ ys. x ∷ ys) (after_past xs i (omega arith))
-
-  -- where v was read at item i
-  pub after_read : (xs : List V) (i : ℕ) (v : V) → i < length xs → v ≡ get_or xs i v → after xs i ≡ set xs i (act v code operand register).0
-  after_read [] i v h e = refl
-  after_read (x ∷ xs) zero v h e = ap (λ w. (act w code operand register).0 ∷ xs) (sym e)
-  after_read (x ∷ xs) (suc i) v h e = ap (λ ys. x ∷ ys) (after_read xs i v (omega arith) e)
 
   -- of the first n items the act is done there
   pub after_take : (n : ℕ) (xs : List V) (i : ℕ) → i < n → take n (after xs i) ≡ after (take n xs) i

@@ -20,23 +20,22 @@ impl<First, Second> JoinedStore<First, Second> {
     }
 }
 
-// Where an item of the joined list stands: in the first store under the same number, in the second under another, or nowhere.
+// Where an item of the joined list stands: in the first store under the same number, or in the second under another.
 enum Part {
     First,
     Second(usize),
-    Nowhere,
 }
 
-// Where item i stands, of a list whose front part has `front` items. In the second store there may be no such item.
-fn part_of(i: usize, front: usize) -> Part
+// Where item i stands, if it counts, of a list whose front part has `front` items. In the second store there may be no such item.
+fn part_of(i: usize, front: usize) -> Option<Part>
     ensures { Stands i front result }
 {
     if i >= CAPACITY {
-        Part::Nowhere
+        None
     } else if i < front {
-        Part::First
+        Some(Part::First)
     } else {
-        Part::Second(i - front)
+        Some(Part::Second(i - front))
     }
 }
 
@@ -51,10 +50,9 @@ impl<K: Kind, First: ShowingStore<K>, Second: ShowingStore<K>> ShowingStore<K>
     }
 
     fn shown(&self, i: usize) -> Option<i64> {
-        match part_of(i, self.first.len()) {
+        match part_of(i, self.first.len())? {
             Part::First => self.first.shown(i),
             Part::Second(j) => self.second.shown(j),
-            Part::Nowhere => None,
         }
     }
 }
@@ -68,10 +66,9 @@ impl<K: Kind, First: WorkingStore<K>, Second: WorkingStore<K>> WorkingStore<K>
     ghost chain = { λ s t u p q. (First.WorkingStore.chain s.first t.first u.first p.0 q.0, Second.WorkingStore.chain s.second t.second u.second p.1 q.1) };
 
     fn work(&mut self, i: usize, code: u8, operand: i32, register: i32) -> Option<i32> {
-        match part_of(i, self.first.len()) {
+        match part_of(i, self.first.len())? {
             Part::First => self.first.work(i, code, operand, register),
             Part::Second(j) => self.second.work(j, code, operand, register),
-            Part::Nowhere => None,
         }
     }
 }

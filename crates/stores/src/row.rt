@@ -1,5 +1,6 @@
-ghost use Rattle.std.specs.Prelude.{◌≡◌, drop, refl};
+ghost use Rattle.std.specs.Prelude.{◌≡◌, drop, refl, slice_get};
 ghost use Rattle.std.proofs.Common.{◌∙◌};
+ghost use Rattle.std.specs.Option.{option_copied};
 ghost use Rattle.stores.specs.Stores.{counted, counted_few, register_after, values_after};
 
 use crate::store::{CAPACITY, ShowingStore, WorkingStore};
@@ -28,6 +29,13 @@ impl<'a, K: Kind> RowStore<'a, K> {
     }
 }
 
+// Item i of a row, if it counts.
+fn counted_item<T>(row: &[T], i: usize) -> Option<&T>
+    ensures { option_copied result ≡ slice_get (counted row.now) i }
+{
+    row[..CAPACITY.min(row.len())].get(i)
+}
+
 // Acts on item i of the row in place, if it counts, and answers the act's register.
 fn act_at<K: Kind>(
     row: &mut [K::Value],
@@ -40,11 +48,10 @@ fn act_at<K: Kind>(
     ensures after { counted row.new ≡ values_after K.Kind.acted (counted row.old) i code operand register }
     ensures outside { drop 4096 row.new ≡ drop 4096 row.old }
 {
-    if i >= row.len().min(CAPACITY) {
-        return None;
-    }
-    let (value, new_register) = K::act(row[i], code, operand, register);
-    row[i] = value;
+    let value = *counted_item(row, i)?;
+    let (new_value, new_register) = K::act(value, code, operand, register);
+    // By index: of what `get_mut` wrote to, a proof knows only the length.
+    row[i] = new_value;
     Some(new_register)
 }
 
@@ -58,13 +65,8 @@ impl<K: Kind> ShowingStore<K> for RowStore<'_, K> {
     }
 
     fn shown(&self, i: usize) -> Option<i64> {
-        // The checker follows an element only through a shared row here.
-        let row = &*self.row;
-        if i < row.len().min(CAPACITY) {
-            Some(K::show(&row[i]))
-        } else {
-            None
-        }
+        // A closure, since `map(K::show)` gets no proof yet.
+        counted_item(self.row, i).map(|value| K::show(value))
     }
 }
 

@@ -1,3 +1,2 @@
 pub mod Moving
 pub mod Logs
-pub mod Shown

@@ -1,172 +1,108 @@
--- Each rule of a call, over lists of places.
-use Rattle.std.proofs.Common.{◌≡◌, ℕ, ◌<◌, ◌≤◌, Bool, true, false, not, List, length, get_or, set, ℤ, Some, None, sym, refl, ap, ◌∙◌, subst, arith}
-use mathlib.Core.Option.{Option, none, some}
-use Rattle.std.proofs.lemmas.List.{get_or_past}
-use Rattle.model.specs.Workload.{Workload}
-use Rattle.model.specs.Table.{Kind, Job, Placed, new_job, not_awaited, seat, Steps, Told, Fits, Moves, begin, step, collect, leave, refused, began, told, collected, left, begin_no_place, begin_no_type, begin_taken, begins, step_no_place, step_no_job, steps, collect_none, collect_early, collects, leave_none, leaves_finished, leaves_unfinished}
+-- What each call does to the places, by the model's rule for it.
+use Rattle.std.proofs.Common.{◌≡◌, ℕ, ◌<◌, true, false, List, set, ℤ, Some, None, Ok, Err, Option, Result, sym, refl, ap, ◌∙◌, subst, arith}
+use Rattle.std.specs.Option.{ok_or}
+use Rattle.std.specs.List.{slice_index_or}
+use Rattle.std.proofs.lemmas.Option.{none-some, same_Some}
+use mathlib.Core.Option.{none, some}
+use mathlib.Core.Option as math
+use Rattle.kinds.specs.View as kind
+use Rattle.kinds.specs.declared.kind.Kind as kinds
+use Rattle.model.specs.Table.{Job, Placed, new_job, not_awaited, seat, Fits, Moves, begin, step, collect, leave, refused, began, told, collected, left, begin_no_place, begin_no_type, begin_taken, begins, step_no_job, steps, collect_early, collects, leaves_finished, leaves_unfinished}
+use Rattle.model.specs.Table as model
 use Rattle.model.proofs.History.{some_same, none_some}
-use Rattle.model.proofs.Job.{clash}
-use Rattle.jobs.specs.View.{job_view, place_view, places_view, told_view, Holding}
+use Rattle.jobs.specs.View.{job_view, place_view, places_view, told_view}
+use Rattle.jobs.specs.declared.record.EnterError.{EnterError}
+use Rattle.jobs.specs.declared.record.EnterError.TheVariants.{NoSuchPlace, NoSuchType, PlaceTaken}
 use Rattle.jobs.specs.declared.record.JobRecord.{JobRecord}
-use Rattle.jobs.specs.declared.record.Place.{Place}
-use Rattle.jobs.specs.declared.record.Place.TheVariants.{Empty, Taken}
 use Rattle.jobs.specs.declared.record.StepAnswer.{StepAnswer}
-use Rattle.jobs.specs.Turns.{Entered, enters, stays_out, Stepped, no_job, Unawaited, lets_go, nobody}
+use Rattle.jobs.specs.Turns.{Entered, enters, no_such_place, no_such_type, place_taken, Stepped, no_job, Unawaited, lets_go, nobody}
 use Rattle.jobs.specs.Turns as turns
-use Rattle.table.specs.View.{table_over}
 use Rattle.jobs.proofs.Keeping.{place_other, place_set, taken_within}
+use Rattle.stores.specs.declared.store.ShowingStore as showing
+use Rattle.table.specs.declared.answer.Refusal.TheVariants.{NoJob}
+use Rattle.table.specs.declared.definition.Table.{Table}
+use Rattle.table.specs.Answers.{step_answer}
+use Rattle.table.specs.Numbers.{number, refusal_of}
+use Rattle.table.specs.View.{Awaited, graph, table_over, view}
 
-pub placed
-    : {V : Type 0} (vs vs' : List V) (ps qs : List Place) (i : ℕ) (x : Place) (o : Option Job) → i < length ps → qs ≡ set ps i x → place_view x ≡ o
-    → Placed (table_over vs ps) i o (table_over vs' qs)
-placed vs vs' ps qs i x o l e f =
-    record {
-      there = ap (λ (z : List Place). places_view z i) e ∙ place_set ps i x l ∙ f;
-      elsewhere = λ q n. ap (λ (z : List Place). places_view z q) e ∙ place_other ps i q x n;
-    }
+err_ok : {T E : Type 0} {r : Result T E} {x : T} {e : E} → r ≡ Err e → r ≡ Ok x → ⊥
+err_ok z y = cc
 
-pub off : (b : Bool) → not b ≡ true → b ≡ false
-off true e = absurd (clash e refl)
-off false e = refl
+pub same_err : {T E : Type 0} {r : Result T E} {d e : E} → r ≡ Err d → r ≡ Err e → d ≡ e
+same_err z y = cc
 
-pub on : (b : Bool) → not b ≡ false → b ≡ true
-on true e = refl
-on false e = absurd (clash refl e)
+-- what holds of a record that stands there holds of the job there
+of_job : (P : Job → Type 0) (x : Option JobRecord) → ((R : JobRecord) → x ≡ Some R → P (job_view R)) → (J : Job) → place_view x ≡ some J → P J
+of_job P None h J e = absurd (none_some e)
+of_job P (Some R) h J e = subst P (some_same e) (h R refl)
 
-module _ {V : Type 0} (W : Workload) (K : Kind V) (vs : List V) (ps : List Place) (l : length ps ≡ 16) where
-  none_past : (p : ℕ) → 16 ≤ p → places_view ps p ≡ none
-  none_past p h = ap place_view (get_or_past ps p Empty (omega arith))
+-- A call on the table t at the place p, and the places qs that it leaves.
+module _ {K' S V : Type 0} (k : kinds.Ghosts K' V) (s : showing.Ghosts S K' V) (t : Table K' S V) (p : ℕ) (qs : List (Option JobRecord)) where
+  -- the call c, answered by a, leaves these places and the values vs
+  abbrev Leaves : model.Call → model.Answer → List V → Type 0
+  Leaves c a vs = Moves (graph t) (kind.view k) (view s t) c a (table_over vs qs)
 
-  pub taken_at : (p : ℕ) (R : JobRecord) → Taken R ≡ get_or ps p Empty → places_view ps p ≡ some (job_view R)
-  taken_at p R e = ap place_view (sym e)
+  -- the places after are those before, with x at the place p
+  placed
+      : (vs : List V) (x : Option JobRecord) (o : math.Option Job) → p < 16 → qs ≡ set t.shift.places p x → place_view x ≡ o
+      → Placed (view s t) p o (table_over vs qs)
+  placed vs x o i e f =
+      record {
+        there = ap (λ (z : List (Option JobRecord)). places_view z p) e ∙ place_set t.shift.places p x (omega (arith, t.shift.sixteen)) ∙ f;
+        elsewhere = λ q n. ap (λ (z : List (Option JobRecord)). places_view z q) e ∙ place_other t.shift.places p q x n;
+      }
 
-  pub empty_at : (p : ℕ) → Empty ≡ get_or ps p Empty → places_view ps p ≡ none
-  empty_at p e = ap place_view (sym e)
+  -- a job is entered, or why it is not
+  module _ (ty : ℕ) (a : ℤ) (f : Fits (graph t) (kind.view k) (view s t)) where
+    pub entered : (r : Result (Unit {0}) EnterError) → Entered t.shift.places p qs (graph t) ty a r → r ≡ Ok tt → Leaves (begin p ty a) began (s.values t.store)
+    entered r (enters R i h e v q z) y =
+        begins p ty a (table_over (s.values t.store) qs) f i h (ap place_view e) refl (placed (s.values t.store) (Some R) (some (new_job ty a)) i q (ap some v))
+    entered r (no_such_place h q z) y = absurd (err_ok z y)
+    entered r (no_such_type i h q z) y = absurd (err_ok z y)
+    entered r (place_taken R i h e q z) y = absurd (err_ok z y)
 
-  pub refuses_type : (p t : ℕ) (a : ℤ) → Fits W K (table_over vs ps) → p < 16 → W.types ≤ t → Moves W K (table_over vs ps) (begin p t a) (refused 11) (table_over vs ps)
-  refuses_type p t a f i h = begin_no_type p t a f i (λ k. absurd (omega arith))
+    refused_as
+        : (d e : EnterError) → d ≡ e → qs ≡ t.shift.places → Moves (graph t) (kind.view k) (view s t) (begin p ty a) (refused (number (refusal_of d))) (view s t)
+        → Leaves (begin p ty a) (refused (number (refusal_of e))) (s.values t.store)
+    refused_as d e x q m =
+        subst (λ (c : EnterError). Leaves (begin p ty a) (refused (number (refusal_of c))) (s.values t.store)) x (rw q m)
 
-  pub refuses_place : (p t : ℕ) (a : ℤ) → Fits W K (table_over vs ps) → 16 ≤ p → Moves W K (table_over vs ps) (begin p t a) (refused 10) (table_over vs ps)
-  refuses_place p t a f h = begin_no_place p t a f (λ k. absurd (omega arith))
+    pub not_entered
+        : (r : Result (Unit {0}) EnterError) (e : EnterError) → Entered t.shift.places p qs (graph t) ty a r → r ≡ Err e
+        → Leaves (begin p ty a) (refused (number (refusal_of e))) (s.values t.store)
+    not_entered r e (enters R i h x v q z) y = absurd (err_ok y z)
+    not_entered r e (no_such_place h q z) y = refused_as NoSuchPlace e (same_err z y) q (begin_no_place p ty a f (λ i. absurd (omega arith)))
+    not_entered r e (no_such_type i h q z) y = refused_as NoSuchType e (same_err z y) q (begin_no_type p ty a f i (λ n. absurd (omega arith)))
+    not_entered r e (place_taken R i h x q z) y = refused_as PlaceTaken e (same_err z y) q (begin_taken p ty a (job_view R) f i h (ap place_view x))
 
-  pub refuses_taken
-      : (p t : ℕ) (a : ℤ) (R : JobRecord) → Fits W K (table_over vs ps) → p < 16 → t < W.types → Taken R ≡ get_or ps p Empty
-      → Moves W K (table_over vs ps) (begin p t a) (refused 12) (table_over vs ps)
-  refuses_taken p t a R f i h e = begin_taken p t a (job_view R) f i h (taken_at p R e)
+  -- what a step at the place tells, or that no unfinished job is there
+  pub stepped
+      : (vs : List V) (r : Option StepAnswer) → p < 16 → Stepped t.shift.places p qs (graph t) (kind.view k) (s.values t.store) vs r
+      → Leaves (step p) (step_answer (ok_or r NoJob)) vs
+  stepped vs r i (turns.Stepped.steps R R' x there e f st v q z) =
+      rw z (steps p (job_view R) (job_view R') (told_view x) (table_over vs qs) i (ap place_view e) f st (placed vs there (seat (job_view R')) i q v))
+  stepped vs r i (no_job n q v z) = rw (z, q, v) (step_no_job p i (of_job (λ J. J.has_finished ≡ true) (slice_index_or t.shift.places p None) n))
 
-  pub starts
-      : (p t : ℕ) (a : ℤ) (R : JobRecord) (qs : List Place) → Fits W K (table_over vs ps) → p < 16 → t < W.types → Empty ≡ get_or ps p Empty
-      → job_view R ≡ new_job t a → qs ≡ set ps p (Taken R) → Moves W K (table_over vs ps) (begin p t a) began (table_over vs qs)
-  starts p t a R qs f i h e r q =
-      begins p t a (table_over vs qs) f i h (empty_at p e) refl (placed vs vs ps qs p (Taken R) (some (new_job t a)) (omega arith) q (ap some r))
+  -- the job there, whose begin awaits its collect or leave
+  module _ (R : JobRecord) (h : Awaited t p R) where
+    within : p < 16
+    within = taken_within t.shift.places p R t.shift.sixteen (sym h.0)
 
-  pub no_place : (p : ℕ) → 16 ≤ p → Moves W K (table_over vs ps) (step p) (refused 10) (table_over vs ps)
-  no_place p h = step_no_place p (λ k. absurd (omega arith))
+    pub too_early : R.finished ≡ false → Moves (graph t) (kind.view k) (view s t) (collect p) (refused 15) (view s t)
+    too_early f = collect_early p (job_view R) (ap place_view h.0) h.1 f
 
-  pub none_there : (p : ℕ) → p < 16 → Empty ≡ get_or ps p Empty → Moves W K (table_over vs ps) (step p) (refused 13) (table_over vs ps)
-  none_there p i e = step_no_job p i (λ J f. absurd (none_some (sym (empty_at p e) ∙ f)))
+    pub collected_so : (z : ℤ) → z ≡ R.register → R.finished ≡ true → qs ≡ set t.shift.places p None → Leaves (collect p) (collected z) (s.values t.store)
+    collected_so z e f q =
+        rw e
+        (collects p (job_view R) (table_over (s.values t.store) qs) (ap place_view h.0) h.1 f refl (placed (s.values t.store) None none within q refl))
 
-  pub job_over : (p : ℕ) (R : JobRecord) → p < 16 → Taken R ≡ get_or ps p Empty → R.finished ≡ true → Moves W K (table_over vs ps) (step p) (refused 13) (table_over vs ps)
-  job_over p R i e f = step_no_job p i (λ J g. subst (λ (I : Job). I.has_finished ≡ true) (some_same (sym (taken_at p R e) ∙ g)) f)
+    pub left_so : R.finished ≡ true → qs ≡ set t.shift.places p None → Leaves (leave p) left (s.values t.store)
+    left_so f q =
+        leaves_finished p (job_view R) (table_over (s.values t.store) qs) (ap place_view h.0) h.1 f refl (placed (s.values t.store) None none within q refl)
 
-  pub takes_step
-      : (p : ℕ) (R : JobRecord) (J : Job) (a : Told) (new : List V) (x : Place) (qs : List Place) → p < 16 → Taken R ≡ get_or ps p Empty → R.finished ≡ false
-      → Steps W K (Holding ps) vs (job_view R) a new J → place_view x ≡ seat J → qs ≡ set ps p x
-      → Moves W K (table_over vs ps) (step p) (told a) (table_over new qs)
-  takes_step p R J a new x qs i e f st s q =
-      steps p (job_view R) J a (table_over new qs) i (taken_at p R e) f st (placed vs new ps qs p x (seat J) (omega arith) q s)
-
-  none_here : (p : ℕ) → places_view ps p ≡ none → (J : Job) → places_view ps p ≡ some J → J.awaited ≡ false
-  none_here p e J f = absurd (none_some (sym e ∙ f))
-
-  not_awaited_here : (p : ℕ) (R : JobRecord) → Taken R ≡ get_or ps p Empty → R.awaited ≡ false → (J : Job) → places_view ps p ≡ some J → J.awaited ≡ false
-  not_awaited_here p R e f J g = subst (λ (I : Job). I.awaited ≡ false) (some_same (sym (taken_at p R e) ∙ g)) f
-
-  pub collect_past : (p : ℕ) → 16 ≤ p → Moves W K (table_over vs ps) (collect p) (refused 14) (table_over vs ps)
-  collect_past p h = collect_none p (none_here p (none_past p h))
-
-  pub collect_empty : (p : ℕ) → Empty ≡ get_or ps p Empty → Moves W K (table_over vs ps) (collect p) (refused 14) (table_over vs ps)
-  collect_empty p e = collect_none p (none_here p (empty_at p e))
-
-  pub collect_left : (p : ℕ) (R : JobRecord) → Taken R ≡ get_or ps p Empty → R.awaited ≡ false → Moves W K (table_over vs ps) (collect p) (refused 14) (table_over vs ps)
-  collect_left p R e f = collect_none p (not_awaited_here p R e f)
-
-  pub collect_soon
-      : (p : ℕ) (R : JobRecord) → Taken R ≡ get_or ps p Empty → R.awaited ≡ true → R.finished ≡ false
-      → Moves W K (table_over vs ps) (collect p) (refused 15) (table_over vs ps)
-  collect_soon p R e f g = collect_early p (job_view R) (taken_at p R e) f g
-
-  pub gives_register
-      : (p : ℕ) (R : JobRecord) (z : ℤ) (qs : List Place) → z ≡ R.register → p < 16 → Taken R ≡ get_or ps p Empty → R.awaited ≡ true → R.finished ≡ true
-      → qs ≡ set ps p Empty → Moves W K (table_over vs ps) (collect p) (collected z) (table_over vs qs)
-  gives_register p R z qs n i e f g q =
-      subst (λ (y : ℤ). Moves W K (table_over vs ps) (collect p) (collected y) (table_over vs qs)) (sym n)
-      (collects p (job_view R) (table_over vs qs) (taken_at p R e) f g refl (placed vs vs ps qs p Empty none (omega arith) q refl))
-
-  pub leave_past : (p : ℕ) → 16 ≤ p → Moves W K (table_over vs ps) (leave p) (refused 14) (table_over vs ps)
-  leave_past p h = leave_none p (none_here p (none_past p h))
-
-  pub leave_empty : (p : ℕ) → Empty ≡ get_or ps p Empty → Moves W K (table_over vs ps) (leave p) (refused 14) (table_over vs ps)
-  leave_empty p e = leave_none p (none_here p (empty_at p e))
-
-  pub leave_left : (p : ℕ) (R : JobRecord) → Taken R ≡ get_or ps p Empty → R.awaited ≡ false → Moves W K (table_over vs ps) (leave p) (refused 14) (table_over vs ps)
-  leave_left p R e f = leave_none p (not_awaited_here p R e f)
-
-  pub leave_over
-      : (p : ℕ) (R : JobRecord) (qs : List Place) → p < 16 → Taken R ≡ get_or ps p Empty → R.awaited ≡ true → R.finished ≡ true
-      → qs ≡ set ps p Empty → Moves W K (table_over vs ps) (leave p) left (table_over vs qs)
-  leave_over p R qs i e f g q =
-      leaves_finished p (job_view R) (table_over vs qs) (taken_at p R e) f g refl (placed vs vs ps qs p Empty none (omega arith) q refl)
-
-  pub leave_on
-      : (p : ℕ) (R Q : JobRecord) (qs : List Place) → p < 16 → Taken R ≡ get_or ps p Empty → R.awaited ≡ true → R.finished ≡ false
-      → job_view Q ≡ not_awaited (job_view R) → qs ≡ set ps p (Taken Q) → Moves W K (table_over vs ps) (leave p) left (table_over vs qs)
-  leave_on p R Q qs i e f g r q =
-      leaves_unfinished p (job_view R) (table_over vs qs) (taken_at p R e) f g refl (placed vs vs ps qs p (Taken Q) (some (not_awaited (job_view R))) (omega arith) q (ap some r))
-
-  -- what entering a job tells of begin
-  module _ (p t : ℕ) (a : ℤ) (qs : List Place) (r : Bool) (f : Fits W K (table_over vs ps)) (i : p < 16) (h : t < W.types) where
-    pub enters_so : Entered ps p qs W t a r → r ≡ true → Moves W K (table_over vs ps) (begin p t a) began (table_over vs qs)
-    enters_so (enters R j k e v q z) y = starts p t a R qs f i h (sym e) v q
-    enters_so (stays_out n q z) y = absurd (clash y z)
-
-    pub enters_not : Entered ps p qs W t a r → r ≡ false → Moves W K (table_over vs ps) (begin p t a) (refused 12) (table_over vs qs)
-    enters_not (enters R j k e v q z) y = absurd (clash z y)
-    enters_not (stays_out n q z) y =
-        subst (λ (zs : List Place). Moves W K (table_over vs ps) (begin p t a) (refused 12) (table_over vs zs)) (sym q) (there (get_or ps p Empty) refl)
-      where
-        there : (x : Place) → get_or ps p Empty ≡ x → Moves W K (table_over vs ps) (begin p t a) (refused 12) (table_over vs ps)
-        there Empty e = absurd (n i h e)
-        there (Taken R) e = refuses_taken p t a R f i h (sym e)
-
-  -- what a step at a place tells of step
-  module _ (p : ℕ) (new : List V) (qs : List Place) (i : p < 16) where
-    pub stepped_so
-        : (y : StepAnswer) → Stepped ps p qs W K vs new (Some y) → Moves W K (table_over vs ps) (step p) (told (told_view y)) (table_over new qs)
-    stepped_so y (turns.Stepped.steps R S x there e f st s q z) =
-        let same : x ≡ y = cc in
-        subst (λ (w : StepAnswer). Moves W K (table_over vs ps) (step p) (told (told_view w)) (table_over new qs)) same
-        (takes_step p R (job_view S) (told_view x) new there qs i (sym e) f st s q)
-    stepped_so y (no_job n q v z) = absurd (let w : ◌≡◌ {A = ℕ} 0 1 = cc in omega arith)
-
-    pub stepped_not : Stepped ps p qs W K vs new None → Moves W K (table_over vs ps) (step p) (refused 13) (table_over new qs)
-    stepped_not (turns.Stepped.steps R S x there e f st s q z) = absurd (let w : ◌≡◌ {A = ℕ} 0 1 = cc in omega arith)
-    stepped_not (no_job n q v z) =
-        subst (λ (zs : List Place). Moves W K (table_over vs ps) (step p) (refused 13) (table_over new zs)) (sym q)
-        (subst (λ (us : List V). Moves W K (table_over vs ps) (step p) (refused 13) (table_over us ps)) (sym v) (there (get_or ps p Empty) refl))
-      where
-        there : (x : Place) → get_or ps p Empty ≡ x → Moves W K (table_over vs ps) (step p) (refused 13) (table_over vs ps)
-        there Empty e = none_there p i (sym e)
-        there (Taken R) e = job_over p R i (sym e) (n R e)
-
-  -- what letting a job go tells of leave
-  pub unawaited_so
-      : (p : ℕ) (R : JobRecord) (qs : List Place) → Taken R ≡ get_or ps p Empty → R.awaited ≡ true → R.finished ≡ false → Unawaited ps p qs
-      → Moves W K (table_over vs ps) (leave p) left (table_over vs qs)
-  unawaited_so p R qs e f g (lets_go S Q d v q) =
-      leave_on p S Q qs (taken_within ps p S l (sym d)) (sym d) (subst (λ (J : JobRecord). J.awaited ≡ true) (same_record R S (e ∙ d)) f)
-      (subst (λ (J : JobRecord). J.finished ≡ false) (same_record R S (e ∙ d)) g) v q
-    where
-      same_record : (X Y : JobRecord) → Taken X ≡ Taken Y → X ≡ Y
-      same_record X Y u = cc
-  unawaited_so p R qs e f g (nobody d q) = absurd (let w : ◌≡◌ {A = Place} (Taken R) Empty = e ∙ d in let z : ◌≡◌ {A = ℕ} 0 1 = cc in omega arith)
+    pub left_alone : R.finished ≡ false → Unawaited t.shift.places p qs → Leaves (leave p) left (s.values t.store)
+    left_alone f (lets_go S R' d v q) =
+        let same : not_awaited (job_view S) ≡ not_awaited (job_view R) = ap (λ (x : JobRecord). not_awaited (job_view x)) (same_Some S R (sym d ∙ h.0)) in
+        leaves_unfinished p (job_view R) (table_over (s.values t.store) qs) (ap place_view h.0) h.1 f refl
+        (placed (s.values t.store) (Some R') (some (not_awaited (job_view R))) within q (ap some (v ∙ same)))
+    left_alone f (nobody d q) = absurd (none-some R (sym d ∙ h.0))

@@ -1,17 +1,24 @@
 -- Calls and answers, as the definitions have them.
-use Rattle.std.specs.Prelude.{◌≡◌, ℕ, List, [], ◌∷◌, map, length, ℤ, Ok, Err, Result}
-use Rattle.model.specs.Table as model
-use Rattle.model.specs.Workload.{Workload}
-use Rattle.model.specs.Journal.{Event, Reached, Promise}
+use Rattle.std.specs.Prelude.{◌≡◌, List, [], ◌∷◌, map, length, ℤ, Ok, Err, Result}
 use Rattle.jobs.specs.View.{told_view}
 use Rattle.jobs.specs.declared.record.StepAnswer.{StepAnswer}
+use Rattle.kinds.specs.View as kind
+use Rattle.kinds.specs.declared.kind.Kind as kinds
+use Rattle.model.specs.Table as model
+use Rattle.model.specs.Journal.{Event, Reached, Promise}
+use Rattle.stores.specs.declared.store.ShowingStore as showing
+use Rattle.workload.specs.View as workload
+use Rattle.workload.specs.declared.definition.Workload.{Workload}
 use Rattle.table.specs.declared.answer.Refusal.{Refusal}
 use Rattle.table.specs.declared.answer.Call.{Call}
 use Rattle.table.specs.declared.answer.Call.TheVariants as call
 use Rattle.table.specs.declared.answer.Answer.{Answer}
 use Rattle.table.specs.declared.answer.Answer.TheVariants as answer
+use Rattle.table.specs.declared.definition.Table.{Table}
+use Rattle.table.specs.declared.rows.Outcome.{Outcome}
 use Rattle.table.specs.declared.ticket.Ticket.{Ticket}
 use Rattle.table.specs.Numbers.{number}
+use Rattle.table.specs.View.{graph, view}
 
 abbrev pub begin_answer : Result Ticket Refusal → model.Answer
 begin_answer (Ok t) = model.began
@@ -28,16 +35,6 @@ collect_answer (Err e) = model.refused (number e.0)
 abbrev pub leave_answer : Result (Unit {0}) Refusal → model.Answer
 leave_answer (Ok v) = model.left
 leave_answer (Err e) = model.refused (number e)
-
--- an accepted begin gives a ticket of its place
-abbrev pub Gives : ℕ → Result Ticket Refusal → Type 0
-Gives p (Ok t) = t.place ≡ p
-Gives p (Err e) = Unit {0}
-
--- a refused collect hands the same ticket back
-abbrev pub HandsBack : Ticket → Result ℤ (Refusal × Ticket) → Type 0
-HandsBack t (Ok v) = Unit {0}
-HandsBack t (Err e) = e.1 ≡ t
 
 abbrev pub call_view : Call → model.Call
 call_view (call.Begin p t a) = model.begin p t a
@@ -58,19 +55,37 @@ logged [] ys past = past
 logged (c ∷ cs) [] past = past
 logged (c ∷ cs) (a ∷ ys) past = logged cs ys (record { call = call_view c; answer = answer_view a } ∷ past)
 
--- Whatever calls led to the table m: with these calls and answers they lead to n.
-abbrev pub LeadsOn : {V : Type 0} → Workload → model.Kind V → model.Table V → List Call → List Answer → model.Table V → Type 0
-LeadsOn {V} W K m cs ys n = (first : List V) (past : List Event) → Reached W K first past m → Reached W K first (logged cs ys past) n
+-- Of tables over a store of kind k, whose values s tells.
+module _ {K S V : Type 0} (k : kinds.Ghosts K V) (s : showing.Ghosts S K V) where
+  -- The call c, answered by a, leads from the table m to the table n.
+  abbrev pub Moved : Table K S V → model.Call → model.Answer → Table K S V → Type 0
+  Moved m c a n = model.Moves (graph m) (kind.view k) (view s m) c a (view s n)
 
--- And the promise stands there.
-abbrev pub PromisedOn : {V : Type 0} → Workload → model.Kind V → model.Table V → List Call → List Answer → model.Table V → Type 0
-PromisedOn {V} W K m cs ys n = (first : List V) (past : List Event) → Reached W K first past m → Promise W K first (logged cs ys past) n
+  -- Whatever calls led to the table m: with these calls and answers they lead to n.
+  abbrev pub LeadsOn : Table K S V → List Call → List Answer → Table K S V → Type 0
+  LeadsOn m cs ys n =
+      (first : List V) (past : List Event) → Reached (graph m) (kind.view k) first past (view s m)
+      → Reached (graph m) (kind.view k) first (logged cs ys past) (view s n)
+
+  -- And the promise stands there.
+  abbrev pub PromisedOn : Table K S V → List Call → List Answer → Table K S V → Type 0
+  PromisedOn m cs ys n =
+      (first : List V) (past : List Event) → Reached (graph m) (kind.view k) first past (view s m)
+      → Promise (graph m) (kind.view k) first (logged cs ys past) (view s n)
+
+  -- A new table of the store and the workload comes to n by just these calls and answers.
+  abbrev pub ReachedBy : S → Workload → List Call → List Answer → Table K S V → Type 0
+  ReachedBy store w cs ys n = Reached (workload.view w) (kind.view k) (s.values store) (logged cs ys []) (view s n)
+
+  -- And the promise stands there.
+  abbrev pub PromisedBy : S → Workload → List Call → List Answer → Table K S V → Type 0
+  PromisedBy store w cs ys n = Promise (workload.view w) (kind.view k) (s.values store) (logged cs ys []) (view s n)
 
 -- What a list of calls on a new table over the values `first` comes to: an answer for each call, a table that is reached
 -- by just these calls and answers, the promise there, and the number that each of its values shows.
-pub record EndsWell {V : Type 0} (W : Workload) (K : model.Kind V) (number : V → ℤ) (first : List V) (cs : List Call) (ys : List Answer) (shown : List ℤ) : Type 0 where
+pub record EndsWell {K V : Type 0} (k : kinds.Ghosts K V) (w : Workload) (first : List V) (cs : List Call) (o : Outcome) : Type 0 where
   pub table : model.Table V
-  pub each : length ys ≡ length cs
-  pub reached : Reached W K first (logged cs ys []) table
-  pub promise : Promise W K first (logged cs ys []) table
-  pub shows : shown ≡ map number table.values
+  pub each : length o.answers.items ≡ length cs
+  pub reached : Reached (workload.view w) (kind.view k) first (logged cs o.answers.items []) table
+  pub promise : Promise (workload.view w) (kind.view k) first (logged cs o.answers.items []) table
+  pub shows : o.shown.items ≡ map k.number table.values

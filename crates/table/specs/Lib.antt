@@ -1,3 +1,4 @@
 pub mod Numbers
 pub mod View
+pub mod Room
 pub mod Answers

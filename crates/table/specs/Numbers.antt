@@ -1,5 +1,7 @@
 -- The numbers by which refused calls are told.
 use Rattle.std.specs.Prelude.{ℕ}
+use Rattle.jobs.specs.declared.record.EnterError.{EnterError}
+use Rattle.jobs.specs.declared.record.EnterError.TheVariants as enter
 use Rattle.table.specs.declared.answer.Refusal.{Refusal}
 use Rattle.table.specs.declared.answer.Refusal.TheVariants.{Misfit, NoSuchPlace, NoSuchType, PlaceTaken, NoJob, NotAwaited, NotFinished}
 
@@ -11,3 +13,9 @@ number PlaceTaken = 12
 number NoJob = 13
 number NotAwaited = 14
 number NotFinished = 15
+
+-- a begin is refused for the reason why its job is not entered
+abbrev pub refusal_of : EnterError → Refusal
+refusal_of enter.NoSuchPlace = NoSuchPlace
+refusal_of enter.NoSuchType = NoSuchType
+refusal_of enter.PlaceTaken = PlaceTaken

@@ -1,8 +1,8 @@
 // Calls on the table, and what they answer.
 ghost use Rattle.std.specs.Prelude.{◌≡◌};
-ghost use Rattle.table.specs.Numbers.{number};
+ghost use Rattle.table.specs.Numbers.{number, refusal_of};
 
-use jobs::record::StepAnswer;
+use jobs::record::{EnterError, StepAnswer};
 
 // Why a call is refused.
 #[derive(Clone, Copy, PartialEq, Eq, Debug)]
@@ -20,7 +20,7 @@ pub enum Refusal {
 }
 
 impl Refusal {
-    // The number by which the refusal is told.
+    // The number by which the refusal is told. A method says what the number is, which a `u8::from` would not.
     pub fn number(self) -> u8
         ensures { result ≡ number self }
     {
@@ -36,8 +36,20 @@ impl Refusal {
     }
 }
 
+impl From<EnterError> for Refusal {
+    ghost from_gives = { λ e r. r ≡ refusal_of e };
+
+    fn from(why: EnterError) -> Refusal {
+        match why {
+            EnterError::NoSuchPlace => Refusal::NoSuchPlace,
+            EnterError::NoSuchType => Refusal::NoSuchType,
+            EnterError::PlaceTaken => Refusal::PlaceTaken,
+        }
+    }
+}
+
 // A call of a list: a place, and for begin the job type and the argument. A ticket counts by its place alone.
-#[derive(Clone, Copy)]
+#[derive(Clone, Copy, PartialEq, Eq, Debug)]
 pub enum Call {
     Begin(u8, u8, i32),
     Step(u8),

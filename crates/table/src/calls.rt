@@ -1,78 +1,69 @@
 // The four calls on a table. Each is the model's relation between the table before, the call, the answer and the table after.
-ghost use Rattle.std.specs.Prelude.{◌≡◌, Decides};
+ghost use Rattle.std.specs.Prelude.{◌≡◌, Decides, IfErr, IfOk, MatchOption};
 ghost use Rattle.kinds.specs.View.{view as kind_view};
-ghost use Rattle.model.specs.Table.{Fits, Moves, begin, collect as collects_at, leave as leaves_at, step as steps_at};
-ghost use Rattle.table.specs.Answers.{Gives, HandsBack, begin_answer, collect_answer, leave_answer, step_answer};
-ghost use Rattle.table.specs.View.{graph, view};
+ghost use Rattle.model.specs.Table.{Fits, NoneAwaited, begin, collect as collects_at, leave as leaves_at, step as steps_at};
+ghost use Rattle.table.specs.Answers.{Moved, begin_answer, collect_answer, leave_answer, step_answer};
+ghost use Rattle.table.specs.View.{Awaited, Keeps, graph, view};
 
 use crate::answer::Refusal;
 use crate::definition::Table;
 use crate::ticket::Ticket;
-use jobs::record::{Place, StepAnswer};
+use jobs::record::{JobRecord, StepAnswer};
 use kinds::kind::Kind;
 use stores::store::{ShowingStore, WorkingStore};
 
 impl<K: Kind, S: WorkingStore<K>> Table<K, S> {
     // Whether the store has as many items, and its kind as many codes, as the workload.
     pub fn fitting(&self) -> bool
-        ensures { Decides result (Fits (graph self.now.shift) (kind_view K.Kind) (view (S.ShowingStore.values self.now.store) self.now.shift)) }
+        ensures { Decides result (Fits (graph self.now) (kind_view K.Kind) (view S.ShowingStore self.now)) }
     {
         let workload = self.shift.workload();
-        workload.item_count() as usize <= self.store.len()
-            && workload.code_count() <= K::code_count()
+        workload.item_count() as usize <= self.store.len() && workload.code_count() <= K::CODES
     }
 
-    // Puts a job of a type at an empty place, in its state 0 with the argument as its register.
+    // Puts a job of a type at an empty place, in its state 0 with the argument as its register, and gives a ticket of the place.
     pub fn begin(&mut self, place: u8, job_type: u8, argument: i32) -> Result<Ticket, Refusal>
-        ensures moves { Moves (graph self.old.shift) (kind_view K.Kind) (view (S.ShowingStore.values self.old.store) self.old.shift) (begin place job_type argument) (begin_answer result) (view (S.ShowingStore.values self.new.store) self.new.shift) }
-        ensures ticket { Gives place result }
-        ensures workload { self.new.shift.workload ≡ self.old.shift.workload }
-        ensures outside { S.WorkingStore.stays self.old.store self.new.store }
+        ensures moves { Moved K.Kind S.ShowingStore self.old (begin place job_type argument) (begin_answer result) self.new }
+        ensures ticket { IfOk result (λ t. t.place ≡ place) }
+        ensures kept { Keeps S.WorkingStore.own self.old self.new }
     {
         if !self.fitting() {
             return Err(Refusal::Misfit);
         }
-        if place >= 16 {
-            return Err(Refusal::NoSuchPlace);
-        }
-        if job_type >= self.shift.workload().type_count() {
-            return Err(Refusal::NoSuchType);
-        }
-        if !self.shift.enter(place, job_type, argument) {
-            return Err(Refusal::PlaceTaken);
-        }
+        self.shift.enter(place, job_type, argument)?;
         Ok(Ticket::new(place))
     }
 
     // The unfinished job at a place makes one step.
     pub fn step(&mut self, place: u8) -> Result<StepAnswer, Refusal>
-        ensures moves { Moves (graph self.old.shift) (kind_view K.Kind) (view (S.ShowingStore.values self.old.store) self.old.shift) (steps_at place) (step_answer result) (view (S.ShowingStore.values self.new.store) self.new.shift) }
-        ensures workload { self.new.shift.workload ≡ self.old.shift.workload }
-        ensures outside { S.WorkingStore.stays self.old.store self.new.store }
+        ensures moves { Moved K.Kind S.ShowingStore self.old (steps_at place) (step_answer result) self.new }
+        ensures kept { Keeps S.WorkingStore.own self.old self.new }
     {
         if place >= 16 {
             return Err(Refusal::NoSuchPlace);
         }
-        match self.shift.step::<K, S>(&mut self.store, place) {
-            Some(answer) => Ok(answer),
-            None => Err(Refusal::NoJob),
-        }
+        self.shift
+            .step::<K, S>(&mut self.store, place)
+            .ok_or(Refusal::NoJob)
+    }
+
+    // The job at a place, if its begin awaits its collect or leave.
+    fn awaited(&self, place: u8) -> Option<JobRecord>
+        ensures { MatchOption result (NoneAwaited (view S.ShowingStore self.now) place) (Awaited self.now place) }
+    {
+        self.shift.at(place).filter(|job| job.awaited)
     }
 
     // Answers a finished job's register and empties its place. A refusal hands the ticket back.
     pub fn collect(&mut self, ticket: Ticket) -> Result<i32, (Refusal, Ticket)>
-        ensures moves { Moves (graph self.old.shift) (kind_view K.Kind) (view (S.ShowingStore.values self.old.store) self.old.shift) (collects_at ticket.place) (collect_answer result) (view (S.ShowingStore.values self.new.store) self.new.shift) }
-        ensures back { HandsBack ticket result }
-        ensures workload { self.new.shift.workload ≡ self.old.shift.workload }
-        ensures outside { S.WorkingStore.stays self.old.store self.new.store }
+        ensures moves { Moved K.Kind S.ShowingStore self.old (collects_at ticket.place) (collect_answer result) self.new }
+        ensures back { IfErr result (λ e. e.1 ≡ ticket) }
+        ensures kept { Keeps S.WorkingStore.own self.old self.new }
     {
         let place = ticket.place();
-        let Place::Taken(job) = self.shift.at(place) else {
+        let Some(job) = self.awaited(place) else {
             return Err((Refusal::NotAwaited, ticket));
         };
-        if !job.awaited {
-            return Err((Refusal::NotAwaited, ticket));
-        }
         if !job.finished {
             return Err((Refusal::NotFinished, ticket));
         }
@@ -83,18 +74,12 @@ impl<K: Kind, S: WorkingStore<K>> Table<K, S> {
 
     // Takes the ticket. A finished job's place empties; an unfinished job goes on, and its place empties with its last step.
     pub fn leave(&mut self, ticket: Ticket) -> Result<(), Refusal>
-        ensures moves { Moves (graph self.old.shift) (kind_view K.Kind) (view (S.ShowingStore.values self.old.store) self.old.shift) (leaves_at ticket.place) (leave_answer result) (view (S.ShowingStore.values self.new.store) self.new.shift) }
-        ensures workload { self.new.shift.workload ≡ self.old.shift.workload }
-        ensures outside { S.WorkingStore.stays self.old.store self.new.store }
+        ensures moves { Moved K.Kind S.ShowingStore self.old (leaves_at ticket.place) (leave_answer result) self.new }
+        ensures kept { Keeps S.WorkingStore.own self.old self.new }
     {
         let place = ticket.place();
         ticket.spend();
-        let Place::Taken(job) = self.shift.at(place) else {
-            return Err(Refusal::NotAwaited);
-        };
-        if !job.awaited {
-            return Err(Refusal::NotAwaited);
-        }
+        let job = self.awaited(place).ok_or(Refusal::NotAwaited)?;
         if job.finished {
             self.shift.clear(place);
         } else {

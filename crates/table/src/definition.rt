@@ -22,7 +22,7 @@ impl<K: Kind, S: WorkingStore<K>> Table<K, S> {
     pub fn new(store: S, workload: Workload) -> Table<K, S>
         ensures store { result.store ≡ store }
         ensures workload { result.shift.workload ≡ workload }
-        ensures new { New (S.ShowingStore.values store) (view (S.ShowingStore.values result.store) result.shift) }
+        ensures new { New (S.ShowingStore.values store) (view S.ShowingStore result) }
     {
         let shift = Shift::new(workload);
         Table {

@@ -1,11 +1,9 @@
 // Lists of calls.
-ghost use Rattle.std.specs.Prelude.{◌≡◌, ◌≤◌, [], length, IfOk, vec_capacity, MatchResult};
-ghost use Rattle.model.specs.Table.{Moves};
-ghost use Rattle.model.specs.Journal.{New, Promise, Reached};
-ghost use Rattle.kinds.specs.View.{view as kind_view};
-ghost use Rattle.workload.specs.View.{view as workload_view};
-ghost use Rattle.table.specs.View.{view, graph};
-ghost use Rattle.table.specs.Answers.{call_view, answer_view, logged, LeadsOn, PromisedOn};
+ghost use Rattle.std.specs.Prelude.{◌≡◌, length, IfOk, MatchResult};
+ghost use Rattle.model.specs.Journal.{New};
+ghost use Rattle.table.specs.Answers.{LeadsOn, Moved, PromisedBy, PromisedOn, ReachedBy, answer_view, call_view};
+ghost use Rattle.table.specs.Room.{IsRoom};
+ghost use Rattle.table.specs.View.{Keeps, view};
 
 use crate::answer::{Answer, Call};
 use crate::definition::Table;
@@ -18,44 +16,39 @@ use workload::definition::Workload;
 impl<K: Kind, S: WorkingStore<K>> Table<K, S> {
     // One call of a list. A ticket counts by its place alone, so one is made for each collect and leave.
     pub fn call(&mut self, call: Call) -> Answer
-        ensures moves { Moves (graph self.old.shift) (kind_view K.Kind) (view (S.ShowingStore.values self.old.store) self.old.shift) (call_view call) (answer_view result) (view (S.ShowingStore.values self.new.store) self.new.shift) }
-        ensures workload { self.new.shift.workload ≡ self.old.shift.workload }
-        ensures outside { S.WorkingStore.stays self.old.store self.new.store }
+        ensures moves { Moved K.Kind S.ShowingStore self.old (call_view call) (answer_view result) self.new }
+        ensures kept { Keeps S.WorkingStore.own self.old self.new }
     {
         match call {
-            Call::Begin(place, job_type, argument) => match self.begin(place, job_type, argument) {
-                Ok(ticket) => {
+            Call::Begin(place, job_type, argument) => self
+                .begin(place, job_type, argument)
+                .map_or_else(Answer::Refused, |ticket| {
                     ticket.spend();
                     Answer::Began
-                }
-                Err(why) => Answer::Refused(why),
-            },
-            Call::Step(place) => match self.step(place) {
-                Ok(answer) => Answer::Stepped(answer),
-                Err(why) => Answer::Refused(why),
-            },
-            Call::Collect(place) => match self.collect(Ticket::new(place)) {
-                Ok(register) => Answer::Collected(register),
-                Err((why, back)) => {
+                }),
+            Call::Step(place) => self
+                .step(place)
+                .map_or_else(Answer::Refused, Answer::Stepped),
+            Call::Collect(place) => self.collect(Ticket::new(place)).map_or_else(
+                |(why, back)| {
                     back.spend();
                     Answer::Refused(why)
-                }
-            },
-            Call::Leave(place) => match self.leave(Ticket::new(place)) {
-                Ok(()) => Answer::Left,
-                Err(why) => Answer::Refused(why),
-            },
+                },
+                Answer::Collected,
+            ),
+            Call::Leave(place) => self
+                .leave(Ticket::new(place))
+                .map_or_else(Answer::Refused, |()| Answer::Left),
         }
     }
 
     // Makes each call in order, and puts its answer into the empty row, which has room for all.
     pub(crate) fn perform_in(&mut self, room: Vec<Answer>, calls: &[Call]) -> Vec<Answer>
-        requires { (room.items ≡ []) × (length calls.now ≤ vec_capacity room) }
-        ensures workload { self.new.shift.workload ≡ self.old.shift.workload }
-        ensures outside { S.WorkingStore.stays self.old.store self.new.store }
+        requires { IsRoom (length calls.now) room }
+        ensures kept { Keeps S.WorkingStore.own self.old self.new }
         ensures each { length result.items ≡ length calls.now }
-        ensures leads { LeadsOn (graph self.old.shift) (kind_view K.Kind) (view (S.ShowingStore.values self.old.store) self.old.shift) calls.now result.items (view (S.ShowingStore.values self.new.store) self.new.shift) }
-        ensures promised { PromisedOn (graph self.old.shift) (kind_view K.Kind) (view (S.ShowingStore.values self.old.store) self.old.shift) calls.now result.items (view (S.ShowingStore.values self.new.store) self.new.shift) }
+        ensures leads { LeadsOn K.Kind S.ShowingStore self.old calls.now result.items self.new }
+        ensures promised { PromisedOn K.Kind S.ShowingStore self.old calls.now result.items self.new }
     {
         let mut answers = room;
         for call in calls {
@@ -68,11 +61,10 @@ impl<K: Kind, S: WorkingStore<K>> Table<K, S> {
     // Makes each call in order, and gives its answer. Without memory for the answers it makes none.
     // Whatever calls led to the table: with these calls and their answers, the promise stands.
     pub fn perform(&mut self, heap: Global, calls: &[Call]) -> Result<Vec<Answer>, AllocError>
-        ensures workload { self.new.shift.workload ≡ self.old.shift.workload }
-        ensures outside { S.WorkingStore.stays self.old.store self.new.store }
+        ensures kept { Keeps S.WorkingStore.own self.old self.new }
         ensures each { IfOk result (λ v. length v.items ≡ length calls.now) }
-        ensures leads { MatchResult result (λ v. LeadsOn (graph self.old.shift) (kind_view K.Kind) (view (S.ShowingStore.values self.old.store) self.old.shift) calls.now v.items (view (S.ShowingStore.values self.new.store) self.new.shift)) (λ _. self.new ≡ self.old) }
-        ensures promised { IfOk result (λ v. PromisedOn (graph self.old.shift) (kind_view K.Kind) (view (S.ShowingStore.values self.old.store) self.old.shift) calls.now v.items (view (S.ShowingStore.values self.new.store) self.new.shift)) }
+        ensures leads { MatchResult result (λ v. LeadsOn K.Kind S.ShowingStore self.old calls.now v.items self.new) (λ _. self.new ≡ self.old) }
+        ensures promised { IfOk result (λ v. PromisedOn K.Kind S.ShowingStore self.old calls.now v.items self.new) }
     {
         let room = Vec::with_capacity(heap, calls.len())?;
         Ok(self.perform_in(room, calls))
@@ -88,8 +80,8 @@ pub fn run<K: Kind, S: WorkingStore<K>>(
     calls: &[Call],
 ) -> (Table<K, S>, Result<Vec<Answer>, AllocError>)
     ensures each { IfOk result.1 (λ v. length v.items ≡ length calls.now) }
-    ensures reached { MatchResult result.1 (λ v. Reached (workload_view workload) (kind_view K.Kind) (S.ShowingStore.values store) (logged calls.now v.items []) (view (S.ShowingStore.values result.0.store) result.0.shift)) (λ _. New (S.ShowingStore.values store) (view (S.ShowingStore.values result.0.store) result.0.shift)) }
-    ensures promise { IfOk result.1 (λ v. Promise (workload_view workload) (kind_view K.Kind) (S.ShowingStore.values store) (logged calls.now v.items []) (view (S.ShowingStore.values result.0.store) result.0.shift)) }
+    ensures reached { MatchResult result.1 (λ v. ReachedBy K.Kind S.ShowingStore store workload calls.now v.items result.0) (λ _. New (S.ShowingStore.values store) (view S.ShowingStore result.0)) }
+    ensures promise { IfOk result.1 (λ v. PromisedBy K.Kind S.ShowingStore store workload calls.now v.items result.0) }
     ensures outside { S.WorkingStore.stays store result.0.store }
 {
     let mut table = Table::new(store, workload);

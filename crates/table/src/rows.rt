@@ -1,9 +1,8 @@
 // Lists of calls over a caller's own row of values, to plain data.
-ghost use Rattle.std.specs.Prelude.{◌≡◌, ◌≤◌, [], map, length, vec_capacity, MatchResult};
-ghost use Rattle.kinds.specs.View.{view as kind_view};
+ghost use Rattle.std.specs.Prelude.{◌≡◌, map, length, IfOk, MatchResult};
 ghost use Rattle.stores.specs.Stores.{counted};
-ghost use Rattle.workload.specs.View.{view as workload_view};
 ghost use Rattle.table.specs.Answers.{EndsWell};
+ghost use Rattle.table.specs.Room.{IsRoom};
 
 use crate::answer::{Answer, Call};
 use crate::definition::Table;
@@ -20,17 +19,27 @@ pub struct Outcome {
     pub shown: Vec<i64>,
 }
 
+impl Outcome {
+    // An outcome that tells nothing yet, with room for so many answers and numbers.
+    fn with_room(heap: Global, answers: usize, shown: usize) -> Result<Outcome, AllocError>
+        ensures { IfOk result (λ o. IsRoom answers o.answers × IsRoom shown o.shown) }
+    {
+        Ok(Outcome {
+            answers: Vec::with_capacity(heap, answers)?,
+            shown: Vec::with_capacity(heap, shown)?,
+        })
+    }
+}
+
 // Puts the number that each item shows into the empty row, which has room for all.
 fn show_in<K: Kind, S: ShowingStore<K>>(store: &S, room: Vec<i64>) -> Vec<i64>
-    requires { (room.items ≡ []) × (length (S.ShowingStore.values store.now) ≤ vec_capacity room) }
+    requires { IsRoom (length (S.ShowingStore.values store.now)) room }
     ensures { result.items ≡ map K.Kind.number (S.ShowingStore.values store.now) }
 {
     let mut shown = room;
+    // A store is no slice: it is asked for the number of each item.
     for i in 0..store.len() {
-        match store.shown(i) {
-            Some(number) => shown.push_reserved(number),
-            None => unreachable(),
-        }
+        shown.push_reserved(store.shown(i).unwrap());
     }
     shown
 }
@@ -39,13 +48,14 @@ fn show_in<K: Kind, S: ShowingStore<K>>(store: &S, room: Vec<i64>) -> Vec<i64>
 fn run_in<K: Kind, S: WorkingStore<K>>(
     store: S,
     workload: Workload,
-    answers: Vec<Answer>,
-    shown: Vec<i64>,
+    room: Outcome,
     calls: &[Call],
 ) -> (S, Outcome)
-    requires { (answers.items ≡ []) × (length calls.now ≤ vec_capacity answers) × (shown.items ≡ []) × (length (S.ShowingStore.values store) ≤ vec_capacity shown) }
-    ensures { EndsWell (workload_view workload) (kind_view K.Kind) K.Kind.number (S.ShowingStore.values store) calls.now result.1.answers.items result.1.shown.items }
+    requires answers { IsRoom (length calls.now) room.answers }
+    requires shown { IsRoom (length (S.ShowingStore.values store)) room.shown }
+    ensures { EndsWell K.Kind workload (S.ShowingStore.values store) calls.now result.1 }
 {
+    let Outcome { answers, shown } = room;
     let mut table = Table::new(store, workload);
     let answers = table.perform_in(answers, calls);
     let store = table.finish();
@@ -61,11 +71,10 @@ pub fn run_row<K: Kind>(
     heap: Global,
     calls: &[Call],
 ) -> Result<Outcome, AllocError>
-    ensures { MatchResult result (λ o. EndsWell (workload_view workload) (kind_view K.Kind) K.Kind.number (counted row.old) calls.now o.answers.items o.shown.items) (λ _. row.new ≡ row.old) }
+    ensures { MatchResult result (λ o. EndsWell K.Kind workload (counted row.old) calls.now o) (λ _. row.new ≡ row.old) }
 {
-    let answers = Vec::with_capacity(heap, calls.len())?;
-    let shown = Vec::with_capacity(heap, row.len().min(CAPACITY))?;
+    let room = Outcome::with_room(heap, calls.len(), row.len().min(CAPACITY))?;
     let store = RowStore::<K>::new(row);
-    let (_store, outcome) = run_in::<K, RowStore<K>>(store, workload, answers, shown, calls);
+    let (_store, outcome) = run_in::<K, RowStore<K>>(store, workload, room, calls);
     Ok(outcome)
 }

@@ -4,6 +4,7 @@ ghost use Rattle.std.specs.Prelude.{◌≡◌, true, false};
 // What begin gives. Only the calls of a table spend it.
 pub struct Ticket {
     place: u8,
+    // A rule of the project: a ticket is a plain value whose drop demands that it was spent, so a flag stands beside the place.
     spent: bool,
 }
 

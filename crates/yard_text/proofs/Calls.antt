@@ -1,68 +1,69 @@
 -- One call more, for the loops that read begin lines and steps, and the calls of a whole input.
-use Rattle.std.proofs.Common.{◌≡◌, ℕ, zero, suc, ◌+◌, ◌<◌, ◌≤◌, List, [], ◌∷◌, ◌++◌, length, map, get_or, take, drop, sym, refl, ap, ◌∙◌, subst, arith, add-one, append_assoc, append-nil, take-append-drop, inl, inr, ℤ}
-use Rattle.std.proofs.lemmas.List.{drop-drop, map_more}
+use Rattle.std.proofs.Common.{◌≡◌, ℕ, ◌+◌, ◌<◌, ◌≤◌, List, [], ◌∷◌, ◌++◌, length, map, get_or, drop, sym, refl, ap, ◌∙◌, subst, arith, add-one, append_assoc, append-nil, inl, inr, ℤ}
+use Rattle.std.proofs.lemmas.List.{drop_more}
 use Rattle.std.specs.Char.{digit_value}
-use Rattle.std.specs.Str.Parse.{AllDigits}
 use Rattle.table.specs.declared.answer.Call.{Call}
 use Rattle.table.specs.declared.answer.Call.TheVariants.{Begin, Step}
 use Rattle.yard_text.specs.Input.{Line, NoLine, Begins, NoDigit, step_at, collects, Asks}
 use Rattle.yard_text.specs.Input.Begins.{three, cut_short, line}
 use Rattle.yard_text.specs.Reading.{AddsSteps}
 
--- begins that go on from the place p and the byte at `from` complete the calls
-abbrev pub Joins : List ℕ → List Call → ℕ → ℕ → Type 0
-Joins bs calls p from = (cs : List Call) (end : List ℕ) → Begins p (drop from bs) cs end → Begins 0 bs (calls ++ cs) end
+-- begins that go on from the place p at the bytes `left` complete the calls
+abbrev pub Joins : List ℕ → List Call → ℕ → List ℕ → Type 0
+Joins bs calls p left = (cs : List Call) (end : List ℕ) → Begins p left cs end → Begins 0 bs (calls ++ cs) end
 
 -- the begins so far, where they end
-pub joins_end : (bs : List ℕ) (calls : List Call) (p from : ℕ) → Joins bs calls p from → Begins p (drop from bs) [] (drop from bs) → Begins 0 bs calls (drop from bs)
-joins_end bs calls p from j b = subst (λ l. Begins 0 bs l (drop from bs)) (append-nil calls) (j [] (drop from bs) b)
+joins_end : (bs left : List ℕ) (calls : List Call) (p : ℕ) → Joins bs calls p left → Begins p left [] left → Begins 0 bs calls left
+joins_end bs left calls p j b = subst (λ l. Begins 0 bs l left) (append-nil calls) (j [] left b)
 
 -- the begins where no line follows, and where there are three
-pub joins_short : (bs : List ℕ) (calls : List Call) (p from : ℕ) → p < 3 → Joins bs calls p from → NoLine (drop from bs) → Begins 0 bs calls (drop from bs)
-joins_short bs calls p from lt j none = joins_end bs calls p from j (cut_short p (drop from bs) lt none)
+pub joins_short : (bs left : List ℕ) (calls : List Call) (p : ℕ) → p < 3 → Joins bs calls p left → NoLine left → Begins 0 bs calls left
+joins_short bs left calls p lt j none = joins_end bs left calls p j (cut_short p left lt none)
 
-pub joins_three : (bs : List ℕ) (calls : List Call) (p from : ℕ) → p ≡ 3 → Joins bs calls p from → Begins 0 bs calls (drop from bs)
-joins_three bs calls p from e j = joins_end bs calls p from j (subst (λ q. Begins q (drop from bs) [] (drop from bs)) (sym e) (three (drop from bs)))
+pub joins_three : (bs left : List ℕ) (calls : List Call) (p : ℕ) → p ≡ 3 → Joins bs calls p left → Begins 0 bs calls left
+joins_three bs left calls p e j = joins_end bs left calls p j (subst (λ q. Begins q left [] left) (sym e) (three left))
 
 -- one line more
 pub joins_more
-    : (bs : List ℕ) (calls new : List Call) (p from n t : ℕ) (a : ℤ) → p < 3 → Joins bs calls p from → Line (take n (drop from bs)) t a
-    → new ≡ calls ++ Begin p t a ∷ [] → Joins bs new (p + 1) (from + n)
-joins_more bs calls new p from n t a lt j l e = λ cs end b.
-    let rest = drop from bs in
-    let next = subst (λ q. Begins q (drop (from + n) bs) cs end) (add-one p) b in
-    let tail = subst (λ r. Begins (suc p) r cs end) (sym (drop-drop n from bs)) next in
-    let whole = j (Begin p t a ∷ cs) end (line p rest (take n rest) (drop n rest) end t a cs lt (sym (take-append-drop n rest)) l tail) in
+    : (bs left front rest : List ℕ) (calls new : List Call) (p t : ℕ) (a : ℤ) → p < 3 → Joins bs calls p left → left ≡ front ++ rest → Line front t a
+    → new ≡ calls ++ Begin p t a ∷ [] → Joins bs new (p + 1) rest
+joins_more bs left front rest calls new p t a lt j cut l e = λ cs end b.
+    let next = subst (λ q. Begins q rest cs end) (add-one p) b in
+    let whole = j (Begin p t a ∷ cs) end (line p left front rest end t a cs lt cut l next) in
     subst (λ x. Begins 0 bs x end) (sym (append_assoc calls (Begin p t a ∷ []) cs) ∙ ap (λ x. x ++ cs) (sym e)) whole
 
--- what begins with a byte that is no digit
-pub no_digit_at : (bs : List ℕ) (i d : ℕ) → i < length bs → 10 ≤ digit_value (get_or bs i d) → NoDigit (drop i bs)
-no_digit_at [] i d lt le = absurd (omega arith)
-no_digit_at (b ∷ bs) zero d lt le = le
-no_digit_at (b ∷ bs) (suc i) d lt le = no_digit_at bs i d (omega arith) le
+-- steps that go on at the bytes `left` are all the steps
+abbrev pub GoesOn : List ℕ → List Call → List ℕ → List Call → Type 0
+GoesOn bs old left calls = (new : List Call) → AddsSteps left calls new → AddsSteps bs old new
 
--- the steps so far, where no digit follows
-steps_end : (bs : List ℕ) (old new : List Call) (i : ℕ) → AllDigits 10 (take i bs) → new ≡ old ++ map step_at (take i bs) → NoDigit (drop i bs) → AddsSteps bs old new
-steps_end bs old new i ds e none = record {
-  steps = take i bs;
-  front = record { rest = drop i bs; bytes = sym (take-append-drop i bs); digits = ds; whole = none };
-  added = e;
+-- no step, where no digit stands first
+pub no_steps : (bs : List ℕ) (old : List Call) → NoDigit bs → AddsSteps bs old old
+no_steps bs old none = record {
+  steps = [];
+  front = record { rest = bs; bytes = refl; digits = tt; whole = none };
+  added = sym (append-nil old);
 }
 
--- the steps before the first byte that is no digit
-pub steps_short
-    : (bs : List ℕ) (old new : List Call) (i : ℕ) → AllDigits 10 (take i bs) → new ≡ old ++ map step_at (take i bs) → i < length bs
-    → 10 ≤ digit_value (get_or bs i 0) → AddsSteps bs old new
-steps_short bs old new i ds e lt le = steps_end bs old new i ds e (no_digit_at bs i 0 lt le)
+-- what begins with a byte that is no digit
+pub no_digit_at : (bs : List ℕ) (i : ℕ) → i < length bs → 10 ≤ digit_value (get_or bs i 0) → NoDigit (drop i bs)
+no_digit_at bs i lt le = subst NoDigit (sym (drop_more bs i 0 lt)) le
 
 -- one step more
 pub steps_more
-    : (bs : List ℕ) (old calls new : List Call) (i p : ℕ) → calls ≡ old ++ map step_at (take i bs) → i < length bs → digit_value (get_or bs i 0) ≡ p
-    → new ≡ calls ++ Step p ∷ [] → new ≡ old ++ map step_at (take (i + 1) bs)
-steps_more bs old calls new i p e lt d n =
-    n ∙ ap (λ l. l ++ Step p ∷ []) e ∙ append_assoc old (map step_at (take i bs)) (Step p ∷ [])
-    ∙ ap (λ q. old ++ (map step_at (take i bs) ++ Step q ∷ [])) (sym d)
-    ∙ ap (λ l. old ++ l) (sym (map_more step_at bs i 0 lt))
+    : (bs : List ℕ) (old calls new : List Call) (i p : ℕ) → GoesOn bs old (drop i bs) calls → i < length bs → digit_value (get_or bs i 0) ≡ p → p < 10
+    → new ≡ calls ++ Step p ∷ [] → GoesOn bs old (drop (i + 1) bs) new
+steps_more bs old calls new i p g lt d small n = λ all s.
+    let byte = get_or bs i 0 in
+    g all (record {
+      steps = byte ∷ s.steps;
+      front = record {
+        rest = s.front.rest;
+        bytes = drop_more bs i 0 lt ∙ ap (λ l. byte ∷ l) s.front.bytes;
+        digits = (subst (λ x. x < 10) (sym d) small, s.front.digits);
+        whole = s.front.whole;
+      };
+      added = s.added ∙ ap (λ l. l ++ map step_at s.steps) (n ∙ ap (λ q. calls ++ Step q ∷ []) (sym d)) ∙ append_assoc calls (step_at byte ∷ []) (map step_at s.steps);
+    })
 
 -- no more than three begins
 begins_length : {p : ℕ} {bs : List ℕ} {cs : List Call} {end : List ℕ} → Begins p bs cs end → length cs + p ≤ 3

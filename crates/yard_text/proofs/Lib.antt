@@ -1,4 +1,5 @@
 pub mod Lines
 pub mod Bytes
 pub mod Splits
+pub mod Numbers
 pub mod Calls

@@ -1,7 +1,7 @@
 // The calls that the input asks for.
-ghost use Rattle.std.specs.Prelude.{◌≡◌, ◌+◌, ◌<◌, ◌≤◌, [], ◌∷◌, ◌++◌, map, length, drop, IfOk, OnOk};
-ghost use Rattle.yard_text.specs.Input.{Asks, Begins, collects};
-ghost use Rattle.yard_text.specs.Reading.{AddsSteps, Found, NamesArgument, NamesDigit, NamesLine, NamesNegative, NamesNumber, NamesPositive};
+ghost use Rattle.std.specs.Prelude.{IfOk, OnOk};
+ghost use Rattle.yard_text.specs.Input.{Asks, Begins};
+ghost use Rattle.yard_text.specs.Reading.{AddsSteps, NamesArgument, NamesDigit, NamesLine, NamesNumber, CutsOnce};
 
 use std::alloc::{AllocError, Global};
 use table::answer::Call;
@@ -13,7 +13,7 @@ struct Begin {
     argument: i32,
 }
 
-// The value of a decimal digit.
+// The value of a decimal digit. `char::to_digit` is no plainer: it would want a `char` and answer a `u32`.
 fn digit(byte: u8) -> Option<u8>
     ensures { NamesDigit byte result }
 {
@@ -23,117 +23,78 @@ fn digit(byte: u8) -> Option<u8>
     }
 }
 
-// Where the byte first stands.
-fn first(bytes: &[u8], byte: u8) -> Option<usize>
-    ensures { Found bytes.now byte result }
+// What stands before the byte's first place and what stands after it.
+fn split_once(bytes: &[u8], byte: u8) -> Option<(&[u8], &[u8])>
+    ensures { CutsOnce bytes.now byte result }
 {
-    for i in 0..bytes.len() {
-        if bytes[i] == byte {
-            return Some(i);
-        }
-    }
-    None
+    let at = bytes.iter().position(|&b| b == byte)?;
+    Some((&bytes[..at], &bytes[at + 1..]))
 }
 
-// The number that the word's digits write, if it is at most `most`.
-fn number(word: &[u8], most: u32) -> Option<u32>
-    ensures { NamesNumber word.now most result }
+// The number that the word's digits write, if it fits.
+fn number(word: &[u8]) -> Option<u32>
+    ensures { NamesNumber word.now u32.MAX result }
 {
     if word.is_empty() {
         return None;
     }
-    let mut value = 0u64;
-    for i in 0..word.len() {
-        let Some(next) = digit(word[i]) else {
-            return None;
-        };
-        value = value * 10 + u64::from(next);
-        if value > u64::from(most) {
-            return None;
-        }
+    let mut value = 0u32;
+    for &byte in word {
+        let next = digit(byte)?;
+        value = value.checked_mul(10)?.checked_add(u32::from(next))?;
     }
-    Some(value as u32)
-}
-
-// The argument that digits after a minus write.
-fn negative(digits: &[u8]) -> Option<i32>
-    ensures { NamesNegative digits.now result }
-{
-    let magnitude = number(digits, 2_147_483_648)?;
-    Some((-i64::from(magnitude)) as i32)
-}
-
-// The argument that digits without a sign write.
-fn positive(digits: &[u8]) -> Option<i32>
-    ensures { NamesPositive digits.now result }
-{
-    let magnitude = number(digits, 2_147_483_647)?;
-    Some(magnitude as i32)
+    Some(value)
 }
 
 // The argument that a word writes.
 fn argument(word: &[u8]) -> Option<i32>
     ensures { NamesArgument word.now result }
 {
-    if !word.is_empty() && word[0] == b'-' {
-        negative(&word[1..])
-    } else {
-        positive(word)
+    match word {
+        [b'-', digits @ ..] => 0i32.checked_sub_unsigned(number(digits)?),
+        digits => 0i32.checked_add_unsigned(number(digits)?),
     }
 }
 
-// The begin line at the front, and how many bytes it has.
-fn begin_line(bytes: &[u8]) -> Option<(Begin, usize)>
+// The begin line at the front, and what follows it.
+fn begin_line(bytes: &[u8]) -> Option<(Begin, &[u8])>
     ensures { NamesLine bytes.now result }
 {
-    let end = first(bytes, b'\n')?;
-    let line = &bytes[..end];
-    let blank = first(line, b' ')?;
-    let job_type = number(&line[..blank], 255)?;
-    let argument = argument(&line[blank + 1..])?;
+    let (line, rest) = split_once(bytes, b'\n')?;
+    let (job_type, word) = split_once(line, b' ')?;
     let begin = Begin {
-        job_type: job_type as u8,
-        argument,
+        job_type: u8::try_from(number(job_type)?).ok()?,
+        argument: argument(word)?,
     };
-    Some((begin, end + 1))
+    Some((begin, rest))
 }
 
-// Puts the begins of the lines at the front into the empty list, and answers how many bytes these lines have.
-fn push_begins(calls: &mut Vec<Call>, bytes: &[u8]) -> Result<usize, AllocError>
-    requires { calls.old.items ≡ [] }
-    ensures { IfOk result (λ at. (at ≤ length bytes.now) × Begins 0 bytes.now calls.new.items (drop at bytes.now)) }
+// The begins of the lines at the front, and what follows these lines.
+fn begins(heap: Global, bytes: &[u8]) -> Result<(Vec<Call>, &[u8]), AllocError>
+    ensures { IfOk result (λ r. Begins 0 bytes.now r.0.items r.1.now) }
 {
-    let mut at = 0;
-    for place in 0..3u8 {
-        let Some((begin, length)) = begin_line(&bytes[at..]) else {
-            return Ok(at);
+    let mut calls = Vec::new(heap);
+    let mut rest = bytes;
+    for place in 0..3 {
+        let Some((begin, after)) = begin_line(rest) else {
+            break;
         };
         calls.push(Call::Begin(place, begin.job_type, begin.argument))?;
-        at += length;
+        rest = after;
     }
-    Ok(at)
+    Ok((calls, rest))
 }
 
 // Adds a step for each digit at the front.
 fn push_steps(calls: &mut Vec<Call>, bytes: &[u8]) -> Result<(), AllocError>
     ensures { OnOk result (AddsSteps bytes.now calls.old.items calls.new.items) }
 {
-    for i in 0..bytes.len() {
-        let Some(place) = digit(bytes[i]) else {
-            return Ok(());
+    for &byte in bytes {
+        let Some(place) = digit(byte) else {
+            break;
         };
         calls.push(Call::Step(place))?;
     }
-    Ok(())
-}
-
-// Adds a collect at each of the three places.
-fn push_collects(calls: &mut Vec<Call>) -> Result<(), AllocError>
-    ensures { OnOk result (calls.new.items ≡ calls.old.items ++ collects) }
-{
-    calls.push(Call::Collect(0))?;
-    calls.push(Call::Collect(1))?;
-    calls.push(Call::Collect(2))?;
     Ok(())
 }
 
@@ -141,11 +102,10 @@ fn push_collects(calls: &mut Vec<Call>) -> Result<(), AllocError>
 pub fn asked(heap: Global, bytes: &[u8]) -> Result<Vec<Call>, AllocError>
     ensures { IfOk result (λ v. Asks bytes.now v.items) }
 {
-    let mut calls = Vec::new(heap);
-    let at = push_begins(&mut calls, bytes)?;
+    let (mut calls, rest) = begins(heap, bytes)?;
     if calls.len() == 3 {
-        push_steps(&mut calls, &bytes[at..])?;
+        push_steps(&mut calls, rest)?;
     }
-    push_collects(&mut calls)?;
+    calls.extend_from_slice(&[Call::Collect(0), Call::Collect(1), Call::Collect(2)])?;
     Ok(calls)
 }

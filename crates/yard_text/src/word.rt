@@ -12,7 +12,7 @@ use table::answer::{Answer, Call};
 pub enum Word {
     // the place of a step, and what it told
     Told(u8, StepAnswer),
-    // the place of a begin or step, and the number of its refusal
+    // the place of a begin or step, and the number of its refusal: a type of refusals here would ask more of who calls `text`
     Refused(u8, u8),
     // the register of a collected job
     Register(i32),
@@ -20,7 +20,7 @@ pub enum Word {
     Dash,
     // what an item shows
     Shown(i64),
-    // the number of a refused file's fault, and its place
+    // the number of a refused file's fault, and its place: kept a number, since want of memory is a fault that has none
     File(u8, usize),
 }
 

@@ -1,16 +1,19 @@
-use Rattle.std.proofs.Common.{◌≡◌, ◌≤◌, true, length, get_or, rules}
-use borrow.Author.Rules.{get_or_read}
-use Rattle.jobs.specs.View.{place_holds}
-use Rattle.jobs.specs.declared.record.Place.TheVariants.{Empty}
-use Rattle.jobs.proofs.Holders.{found_holder, no_holder}
+use Rattle.std.proofs.Common.{◌≡◌, ℕ, true, false, Some, None, Option, refl, rules}
+use mathlib.Core.Option.{some}
+use Rattle.std.proofs.lemmas.Iterator.{IsFirst-from_position, YieldsList-from_slice}
+use Rattle.model.specs.Table.{Job}
+use Rattle.jobs.specs.declared.record.JobRecord.{JobRecord}
+use Rattle.jobs.specs.View.{job_view, place_holds, place_view}
 use Rattle.jobs.proofs.places.holder.Goals as goal
 
-pub returns-then-place_holds_item : goal.returns-then-place_holds_item
-returns-then-place_holds_item c =
-    let h : place_holds (get_or c.args.places.now c.loop-q.q Empty) c.args.d ≡ true = search (rules, get_or_read) in
-    found_holder c.args.places.now c.loop-q.q c.args.d h
+job_there : (x : Option JobRecord) (d : ℕ) → place_holds x d ≡ true → (J : Job) × (place_view x ≡ some J) × (J.held d ≡ true)
+job_there None d h = cc
+job_there (Some r) d h = (job_view r, refl, h)
 
 pub returns : goal.returns
 returns c =
-    let l : length c.args.places.now ≤ c.loop-q.q = search rules in
-    no_holder c.args.places.now c.args.d c.loop-q.q l c.loop-q.invariant
+    let ps = c.args.places.now in
+    let d = c.args.d in
+    let first = IsFirst-from_position _ _ _ (λ x. place_holds x d ≡ true) (λ x. place_holds x d ≡ false) c.position.ensures.ran (YieldsList-from_slice ps c.iter.ensures.rest) (λ x q k. search rules) (λ x q k. (search rules, search rules)) in
+    let there = rw c.in_ok-q.was at first in
+    job_there _ d (there.1 None)

@@ -1,18 +1,24 @@
-use Rattle.std.proofs.Common.{◌≡◌, ◌<◌, ◌≤◌, length, set, Some, sym, refl, ap, ◌∙◌, arith, length-take, drop-set-lt, w32, SFits, rules}
+use Rattle.std.proofs.Common.{◌≡◌, ℕ, ◌<◌, List, length, set, Some, sym, ap, ◌∙◌, arith, length-take, drop-set-lt, w32, SFits, rules}
+use Rattle.std.proofs.Math.Seq.{take-set-lt}
 use Rattle.std.proofs.lemmas.Int.{to_z-of_z}
+use Rattle.std.proofs.lemmas.Option.{slice_get_within}
+use Rattle.std.specs.List.{slice_get}
 use Rattle.stores.specs.Stores.{counted}
-use Rattle.stores.proofs.Acts.{register_past, register_read, after_past, after_read, after_take}
+use Rattle.stores.proofs.Acts.{register_at, after_none, after_at}
 use Rattle.stores.proofs.row.act_at.Goals as goal
 
-pub returns-then-i-min : goal.returns-then-i-min
-returns-then-i-min g c =
-    let row = c.args.row.now in
-    let past : length (counted row) ≤ c.args.i = simp length-take (omega arith) in
-    record {
-      answer = sym (register_past g.K.Kind.acted _ _ _ (counted row) c.args.i past);
-      after = sym (after_past g.K.Kind.acted _ _ _ (counted row) c.args.i past);
-      outside = refl;
-    }
+-- an item that counts is one of the first 4,096, and in the row
+within : {V : Type 0} (row : List V) (i : ℕ) (v : V) → Some v ≡ slice_get (counted row) i → (i < 4096) × (i < length row)
+within row i v e = let inside = simp length-take at (slice_get_within (counted row) i v (sym e)) in (omega arith, omega arith)
+
+pub returns-in_err-value-clause-after : goal.returns-in_err-value-clause-after
+returns-in_err-value-clause-after g c = after_none g.K.Kind.acted _ _ _ (counted c.args.row.now) c.args.i c.in_err-value.ensures
+
+pub bounds-row-i : goal.bounds-row-i
+bounds-row-i g c = let inside = within c.args.row.now c.args.i _ c.in_ok-value.ensures in omega arith
+
+pub offset_bounds-row-i : goal.offset_bounds-row-i
+offset_bounds-row-i g c = let inside = within c.args.row.now c.args.i _ c.in_ok-value.ensures in search rules
 
 pub returns : goal.returns
 returns g c =
@@ -21,18 +27,12 @@ returns g c =
     let act = g.K.Kind.acted in
     let operand = c.ranges.operand in
     let register = c.ranges.register in
-    let fits : SFits w32 c.act-value.result.1 = search rules in
-    let low : a.i < 4096 = omega arith in
-    let here : a.i < length row = omega arith in
-    let made : c.act-value.result ≡ act c.index-row-i.result a.code a.operand a.register = simp to_z-of_z at c.act-value.ensures in
+    let fits : SFits w32 c.act-new_value.result.1 = search rules in
+    let there = c.in_ok-value.ensures in
+    let low = (within row a.i _ there).0 in
+    let made : c.act-new_value.result ≡ act c.in_ok-value.field-0.now a.code a.operand a.register = simp to_z-of_z at c.act-new_value.ensures in
     record {
-      answer = ap Some (to_z-of_z w32 _ fits ∙ ap (λ p. p.1) made) ∙ sym (register_read act _ _ _ 4096 row a.i _ low here c.index-row-i.is);
-      after =
-          ap (λ p. counted (set row a.i p.0)) made
-          ∙ ap counted (sym (after_read act _ _ _ row a.i _ here c.index-row-i.is))
-          ∙ after_take act _ _ _ 4096 row a.i low;
+      answer = ap Some (to_z-of_z w32 _ fits ∙ ap (λ p. p.1) made) ∙ register_at act _ _ _ (counted row) a.i _ there;
+      after = take-set-lt 4096 row a.i _ low ∙ ap (λ p. set (counted row) a.i p.0) made ∙ after_at act _ _ _ (counted row) a.i _ there;
       outside = drop-set-lt 4096 row a.i _ low;
     }
-
-pub offset_bounds-row-i-2 : goal.offset_bounds-row-i-2
-offset_bounds-row-i-2 g c = let here : c.args.i < length c.args.row.now = omega arith in search rules

@@ -3,6 +3,8 @@ use Rattle.table.proofs.rows.show_in.Given as goal
 
 abbrev pub invariant-loop-i : goal.invariant-loop-i
 invariant-loop-i g l =
-    (vec_len l.shown ≡ l.i)
-    × (length (g.S.ShowingStore.values l.store) ≤ vec_capacity l.shown)
-    × (vec_items l.shown ≡ map g.K.Kind.number (take l.i (g.S.ShowingStore.values l.store)))
+    record {
+      told : vec_len l.shown ≡ l.i;
+      room : length (g.S.ShowingStore.values l.store) ≤ vec_capacity l.shown;
+      so_far : vec_items l.shown ≡ take l.i (map g.K.Kind.number (g.S.ShowingStore.values l.store));
+    }

@@ -1,31 +1,40 @@
-use Rattle.std.proofs.Common.{ℕ, ◌+◌, ◌*◌, ◌<◌, length, sym, ap, ◌∙◌, subst, take_all, rules}
-use Rattle.std.specs.Str.Parse.{AllDigits, digits_value}
-use Rattle.yard_text.proofs.Bytes.{digits_more, digits_at, value_next, too_large, no_digit}
+use Rattle.std.proofs.Common.{ℕ, ◌≡◌, ◌+◌, ◌*◌, ◌<◌, [], length, drop, sym, ap, ◌∙◌, subst, arith, rules}
+use Rattle.std.proofs.lemmas.List.{drop_all}
+use Rattle.std.specs.Str.Parse.{AllDigits, digits_value_after}
+use Rattle.yard_text.proofs.Bytes.{Begun, digits_at, one_more, too_large, no_digit}
 use Rattle.yard_text.proofs.input.number.Goals as goal
 
-pub returns-in_default : goal.returns-in_default
-returns-in_default c = λ n w le. no_digit _ (digits_at c.args.word.now c.loop-i.i 0 c.loop-i-test.true w.numeral.1) c.in_default.ensures
+pub returns-in_err-next : goal.returns-in_err-next
+returns-in_err-next c =
+    rw c.from_residual.ensures (λ n w le. no_digit _ (digits_at c.args.word.now c.loop-byte.byte-index 0 c.loop-byte-test.true w.numeral.1) c.in_err-next.ensures)
 
-pub returns-then-value-from : goal.returns-then-value-from
-returns-then-value-from c = λ n w le.
-    let v = value_next c.args.word.now c.loop-i.i c.loop-i.value c.in-Some.next c.from.result c.loop-i-test.true c.loop-i.invariant.1 c.in-Some.ensures.0 c.from.ensures in
-    let most : c.args.most < c.loop-i.value * 10 + c.from.result = subst (λ (m : ℕ). m < c.loop-i.value * 10 + c.from.result) c.from-in-loop-i.ensures c.if-value-from.true in
-    too_large c.args.word.now (c.loop-i.i + 1) _ c.args.most n v most w.number le
+pub returns-in_err-checked_mul : goal.returns-in_err-checked_mul
+returns-in_err-checked_mul c =
+    let d = c.in_ok-next in
+    let more = one_more c.loop-byte.byte-index c.loop-byte-test.true c.loop-byte.invariant.begun d.ensures.0 d.ensures.1 in
+    let large : 4294967295 < c.loop-byte.value * 10 + d.next = omega (arith, c.in_err-checked_mul.ensures) in
+    rw c.from_residual-in_err-checked_mul.ensures (too_large 4294967295 more large)
 
-pub loop-i-preserved : goal.loop-i-preserved
-loop-i-preserved c =
-    let i = c.loop-i.invariant in
-    let d = c.in-Some.ensures in
-    let ws = c.args.word.now in (
-      digits_more ws c.loop-i.i 0 c.loop-i-test.true i.0 (subst (λ (n : ℕ). n < 10) (sym d.0) d.1),
-      value_next ws c.loop-i.i c.loop-i.value c.in-Some.next c.from.result c.loop-i-test.true i.1 d.0 c.from.ensures,
-      search rules,
-    )
+pub returns-in_err-value : goal.returns-in_err-value
+returns-in_err-value c =
+    let d = c.in_ok-next in
+    let more = one_more c.loop-byte.byte-index c.loop-byte-test.true c.loop-byte.invariant.begun d.ensures.0 d.ensures.1 in
+    let large : 4294967295 < c.loop-byte.value * 10 + d.next = search rules in
+    rw c.from_residual-in_err-value.ensures (too_large 4294967295 more large)
+
+pub loop-byte-preserved : goal.loop-byte-preserved
+loop-byte-preserved c =
+    let d = c.in_ok-next in
+    let more = one_more c.loop-byte.byte-index c.loop-byte-test.true c.loop-byte.invariant.begun d.ensures.0 d.ensures.1 in
+    let is : c.loop-byte.value * 10 + d.next ≡ c.in_ok-value.value = search rules in
+    record {
+      begun = subst (λ (v : ℕ). Begun c.args.word.now v (drop (c.loop-byte.byte-index + 1) c.args.word.now)) is more;
+      fits = search rules;
+    }
 
 pub returns : goal.returns
 returns c =
-    let i = c.loop-i.invariant in
-    let ws = c.args.word.now in
-    let all = take_all c.loop-i.i ws c.loop-i-test.false in
-    let some : 0 < length ws = search rules in
-    (record { numeral = (some, subst (AllDigits 10) all i.0); number = sym (i.1 ∙ ap (digits_value 10) all) }, i.2)
+    let u = c.loop-byte.invariant.begun in
+    let ended : drop c.loop-byte.byte-index c.args.word.now ≡ [] = drop_all c.loop-byte.byte-index c.args.word.now c.loop-byte-test.false in
+    let some : 0 < length c.args.word.now = search rules in
+    (record { numeral = (some, u.digits (subst (AllDigits 10) (sym ended) tt)); number = u.number ∙ ap (digits_value_after 10 c.loop-byte.value) ended }, c.loop-byte.invariant.fits)

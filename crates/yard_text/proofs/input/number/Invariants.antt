@@ -1,9 +1,9 @@
-use Rattle.std.proofs.Common.{◌≡◌, ◌≤◌, take}
-use Rattle.std.specs.Str.Parse.{AllDigits, digits_value}
+use Rattle.std.proofs.Common.{◌≤◌, drop}
+use Rattle.yard_text.proofs.Bytes.{Begun}
 use Rattle.yard_text.proofs.input.number.Given as goal
 
-abbrev pub invariant-loop-i : goal.invariant-loop-i
-invariant-loop-i l =
-    AllDigits 10 (take l.i l.word)
-    × (l.value ≡ digits_value 10 (take l.i l.word))
-    × (l.value ≤ l.most)
+abbrev pub invariant-loop-byte : goal.invariant-loop-byte
+invariant-loop-byte l = record {
+  begun : Begun l.word l.value (drop l.byte-index l.word);
+  fits : l.value ≤ 4294967295;
+}

@@ -1,5 +1,4 @@
-use Rattle.std.proofs.Common.{◌≡◌, [], ◌∷◌, ◌++◌, string_bytes, ap, ◌∙◌, take_all, rules}
-use Rattle.yard_text.specs.Words.{parted}
+use Rattle.std.proofs.Common.{◌≡◌, [], ◌∷◌, ◌++◌, string_bytes, ap, ◌∙◌, rules}
 use Rattle.yard_text.proofs.Lines.{first_word, later_word}
 use Rattle.yard_text.proofs.word.line.Goals.{then-i-gt0+in_ok-push, else-i-gt0}
 use Rattle.yard_text.proofs.word.line.Goals as goal
@@ -19,8 +18,3 @@ loop-i-preserved c =
       | else-i-gt0 w ↦
           first_word ws _ c.loop-i.i old _ c.loop-i-test.true w.if-i-gt0.false c.loop-i.invariant (put ∙ ap (λ l. l ++ word) (ap string_bytes w.bytes-is) ∙ ap (λ l. old ++ l) told)
     ]
-
-pub returns : goal.returns
-returns c =
-    let put : string_bytes c.push-2.new.self ≡ string_bytes c.loop-i.bytes ++ 10 ∷ [] = search rules in
-    put ∙ ap (λ l. l ++ 10 ∷ []) (c.loop-i.invariant ∙ ap parted (take_all c.loop-i.i c.args.words.now c.loop-i-test.false))

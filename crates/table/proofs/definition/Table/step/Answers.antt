@@ -1,38 +1,12 @@
-use Rattle.std.proofs.Common.{refl}
-use Rattle.kinds.specs.View.{view as kind_view}
-use Rattle.table.specs.View.{graph}
-use Rattle.table.proofs.Moving.{no_place, stepped_not, stepped_so}
+use Rattle.std.proofs.Common.{arith}
+use Rattle.model.specs.Table.{step_no_place}
+use Rattle.table.proofs.Moving.{stepped}
 use Rattle.table.proofs.definition.Table.step.Goals as goal
 
-pub returns-then-place-ge16 : goal.returns-then-place-ge16
-returns-then-place-ge16 g c =
-    let s = c.args.self.now.shift in
-    let vs = g.S.ShowingStore.values c.args.self.now.store in
-    let K = kind_view g.K.Kind in
-    record {
-      moves = no_place (graph s) K vs s.places s.sixteen c.args.place c.if-place-ge16.true;
-      workload = refl;
-      outside = g.S.WorkingStore.still c.args.self.now.store;
-    }
+pub returns-then-place-ge16-clause-moves : goal.returns-then-place-ge16-clause-moves
+returns-then-place-ge16-clause-moves g c = step_no_place c.args.place (λ i. absurd (omega arith))
 
-pub returns-in-Some : goal.returns-in-Some
-returns-in-Some g c =
-    let s = c.args.self.now.shift in
-    let vs = g.S.ShowingStore.values c.args.self.now.store in
-    let K = kind_view g.K.Kind in
-    record {
-      moves = stepped_so (graph s) K vs s.places s.sixteen c.args.place _ c.step.new.self.places c.if-place-ge16.false c.in-Some.answer c.in-Some.ensures.stepped;
-      workload = c.in-Some.ensures.workload;
-      outside = c.in-Some.ensures.outside;
-    }
-
-pub returns-in-None : goal.returns-in-None
-returns-in-None g c =
-    let s = c.args.self.now.shift in
-    let vs = g.S.ShowingStore.values c.args.self.now.store in
-    let K = kind_view g.K.Kind in
-    record {
-      moves = stepped_not (graph s) K vs s.places s.sixteen c.args.place _ c.step.new.self.places c.if-place-ge16.false c.in-None.ensures.stepped;
-      workload = c.in-None.ensures.workload;
-      outside = c.in-None.ensures.outside;
-    }
+pub returns-clause-moves : goal.returns-clause-moves
+returns-clause-moves g c =
+    rw c.ok_or.ensures.value
+    (stepped g.K.Kind g.S.ShowingStore c.args.self.now c.args.place c.step.new.self.places _ c.step.result c.if-place-ge16.false c.step.ensures.stepped)

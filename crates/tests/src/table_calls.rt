@@ -1,0 +1,5 @@
+// Calls on the table, over a row of tallies.
+mod listing;
+mod refusals;
+mod tables;
+mod tickets;

@@ -1,0 +1,3 @@
+// The text of the program yard.
+mod inputs;
+mod lines;

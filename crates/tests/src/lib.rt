@@ -1,13 +1,11 @@
-// Tests of all crates on real files, rows and inputs. They stand apart, so that no crate is proved twice,
-// and together, so that what builds their files stands once.
+// Tests of what a workload file comes to: reading, writing, sets, jobs and the table. They stand apart, so that no crate
+// is proved twice, and together, so that what builds their files stands once.
 #![tactic(auto)]
 
 #[cfg(test)]
 mod checks;
 #[cfg(test)]
 mod files;
-#[cfg(test)]
-mod item_kinds;
 #[cfg(test)]
 mod job_sets;
 #[cfg(test)]
@@ -18,5 +16,3 @@ mod read_files;
 mod table_calls;
 #[cfg(test)]
 mod write_files;
-#[cfg(test)]
-mod yard_lines;

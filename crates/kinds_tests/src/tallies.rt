@@ -1,4 +1,4 @@
-use crate::item_kinds::cases::{Case, check_all};
+use crate::cases::{Case, check_all};
 use kinds::kind::Kind;
 use kinds::tally::Tally;
 

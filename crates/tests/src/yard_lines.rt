@@ -1,3 +1,0 @@
-// The text of the program yard.
-mod inputs;
-mod lines;

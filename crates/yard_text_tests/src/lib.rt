@@ -5,3 +5,5 @@
 mod inputs;
 #[cfg(test)]
 mod lines;
+#[cfg(test)]
+mod reports;

@@ -1,0 +1,9 @@
+mod Files
+mod Rows
+mod Pair
+mod Sets
+mod Facts
+mod Turns
+mod Course
+mod Once
+mod Order

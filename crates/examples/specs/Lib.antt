@@ -1,0 +1,6 @@
+pub mod Tallies
+pub mod Files
+pub mod States
+pub mod Sets
+pub mod Listing
+pub mod Worked

@@ -9,7 +9,7 @@ use crate::copy::copy_file;
 use crate::describe::describe;
 use crate::refusal::refuse;
 use anyhow::anyhow;
-use std::alloc::AllocError;
+use std::alloc::{AllocError, Global};
 use std::{env, fs};
 use workload::definition::Workload;
 use workload::file::read;
@@ -24,24 +24,37 @@ enum Task {
 }
 
 // The path given as an argument, or `work.tlw` in the current folder.
-fn path_or_default(rt: &HostRuntime, given: Option<String>) -> Result<String, AllocError> {
-    given.map_or_else(|| String::from_str(rt.alloc(), "work.tlw"), Ok)
+fn path_or_default(heap: Global, given: Option<String>) -> Result<String, AllocError> {
+    given.map_or_else(|| String::from_str(heap, "work.tlw"), Ok)
 }
 
-// Reads `[FILE]` or `--copy OUT [FILE]`.
+// What up to three arguments ask for, `[FILE]` or `--copy OUT [FILE]`; nothing where OUT is missing.
+fn task_of(
+    heap: Global,
+    first: Option<String>,
+    second: Option<String>,
+    third: Option<String>,
+) -> Result<Option<Task>, AllocError> {
+    let first = path_or_default(heap, first)?;
+    if first.as_str() != "--copy" {
+        return Ok(Some(Task::Describe { file: first }));
+    }
+    let Some(out) = second else {
+        return Ok(None);
+    };
+    let file = path_or_default(heap, third)?;
+    Ok(Some(Task::Copy { file, out }))
+}
+
+// Reads the arguments, or tells how they are written.
 fn asked(rt: &HostRuntime) -> anyhow::Result<Task> {
     let mut args = env::args(rt)?;
     let _program = args.next();
-    let first = path_or_default(rt, args.next())?;
-    if first.as_str() != "--copy" {
-        return Ok(Task::Describe { file: first });
-    }
-    let Some(out) = args.next() else {
+    let Some(task) = task_of(rt.alloc(), args.next(), args.next(), args.next())? else {
         eprintln!(rt; "usage: inspect [FILE], or inspect --copy OUT [FILE]")?;
         return Err(anyhow!("--copy needs the path of the copy"));
     };
-    let file = path_or_default(rt, args.next())?;
-    Ok(Task::Copy { file, out })
+    Ok(task)
 }
 
 // The bytes of a file; a missing or unreadable file counts as an empty one.
@@ -54,7 +67,8 @@ fn describe_file(rt: &HostRuntime, file: &[u8]) -> anyhow::Result<()> {
     let mut workload = Workload::start(rt.alloc())?;
     match read(rt.alloc(), file, &mut workload) {
         Ok(span) => {
-            describe(rt, &workload, span.length)?;
+            let text = describe(rt.alloc(), &workload, span.length)?;
+            print!(rt; "{text}")?;
             Ok(())
         }
         Err(fault) => refuse(rt, fault),
@@ -69,5 +83,42 @@ fn main(rt: HostRuntime) -> anyhow::Result<()> {
             bytes(&rt, file.as_str()).as_slice(),
             out.as_str(),
         ),
+    }
+}
+
+#[cfg(test)]
+mod tests {
+    use super::*;
+    use std::test::Fail;
+
+    // The task that such arguments ask for, in words.
+    fn told(heap: Global, args: &[&str]) -> Result<String, Fail> {
+        let mut given = [None, None, None];
+        for (place, arg) in given.iter_mut().zip(args.iter()) {
+            *place = Some(String::from_str(heap, arg)?);
+        }
+        let [first, second, third] = given;
+        let text = match task_of(heap, first, second, third)? {
+            Some(Task::Describe { file }) => format!(in heap; "describe {file}")?,
+            Some(Task::Copy { file, out }) => format!(in heap; "copy {file} to {out}")?,
+            None => String::from_str(heap, "nothing")?,
+        };
+        Ok(text)
+    }
+
+    #[test]
+    fn arguments_ask_for_a_task(rt: HostRuntime) -> Result<(), Fail> {
+        let heap = rt.alloc();
+        let cases: [(&[&str], &str); 5] = [
+            (&[], "describe work.tlw"),
+            (&["a"], "describe a"),
+            (&["--copy", "b"], "copy work.tlw to b"),
+            (&["--copy", "b", "a"], "copy a to b"),
+            (&["--copy"], "nothing"),
+        ];
+        for (args, words) in cases {
+            assert_eq!(rt; told(heap, args)?.as_str(), words);
+        }
+        Ok(())
     }
 }

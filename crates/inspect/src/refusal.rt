@@ -48,18 +48,45 @@ mod tests {
 
     #[test]
     fn refusals_are_told(rt: HostRuntime) -> Result<(), Fail> {
-        let tree = Refusal(Fault::Tree(8));
-        let text = format!(in rt.alloc(); "{tree}")?;
-        assert_eq!(rt;
-            text.as_str(),
-            "refused with number 4 at byte 8: the parents make no tree: this item never comes to one root"
-        );
-        let memory = Refusal(Fault::Memory);
-        let text = format!(in rt.alloc(); "{memory}")?;
-        assert_eq!(rt;
-            text.as_str(),
-            "not read: there is not enough memory to read the file"
-        );
+        let cases = [
+            (
+                Fault::Missing(3),
+                "refused with number 1 at byte 3: the file ends before this field does",
+            ),
+            (
+                Fault::Mark(0),
+                "refused with number 2 at byte 0: the file does not begin with TLW and version 1",
+            ),
+            (
+                Fault::Count(5),
+                "refused with number 3 at byte 5: a count is outside its range",
+            ),
+            (
+                Fault::Tree(8),
+                "refused with number 4 at byte 8: the parents make no tree: this item never comes to one root",
+            ),
+            (
+                Fault::Record(20),
+                "refused with number 5 at byte 20: this byte of a state's record is wrong",
+            ),
+            (
+                Fault::Stray(21),
+                "refused with number 6 at byte 21: this state is not reached from state 0 or reaches no terminal state",
+            ),
+            (
+                Fault::Tail(30),
+                "refused with number 7 at byte 30: the note is longer than 1,000 bytes, or bytes follow it",
+            ),
+            (
+                Fault::Memory,
+                "not read: there is not enough memory to read the file",
+            ),
+        ];
+        for (fault, words) in cases {
+            let refusal = Refusal(fault);
+            let text = format!(in rt.alloc(); "{refusal}")?;
+            assert_eq!(rt; text.as_str(), words);
+        }
         Ok(())
     }
 }

@@ -1,4 +1,4 @@
-// Sets of item numbers. Every contract speaks of membership alone, so that the word behind a set can change.
+// Sets of item numbers. Contracts speak of membership, so that the word behind a set can change.
 #![tactic(auto)]
 
 ghost use Rattle.std.specs.Prelude.{◌≡◌, ℕ, ◌<◌, ◌≤◌, min, true, false, not, ◌&&◌, ◌||◌, Decides, MatchOption, ◌==◌, nat_lt};

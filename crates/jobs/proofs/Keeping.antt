@@ -1,18 +1,20 @@
 -- A change at one place keeps what holds of every record.
-use Rattle.std.proofs.Common.{◌≡◌, ℕ, ◌<◌, false, List, length, get_or, set, ℤ, Some, None, Option, sym, ap, ◌∙◌, subst, inl, inr, arith, get_or-set_other, get_or-set_same}
+use Rattle.std.proofs.Common.{◌≡◌, ℕ, ◌<◌, Bool, true, false, cond, not, ◌&&◌, refl, List, length, get_or, set, ℤ, Some, None, Option, sym, ap, ◌∙◌, subst, inl, inr, arith, get_or-set_other, get_or-set_same}
 use mathlib.Core.Logic.{∥∥₁_map}
-use mathlib.Core.Option.{some}
+use mathlib.Core.Option.{none, some}
 use native.Mathlib.Decide.{ℕ_discrete}
 use Rattle.std.proofs.lemmas.List.{get_or_past}
 use Rattle.std.proofs.lemmas.Bool.{cases_lt}
 use Rattle.model.specs.Workload.{Workload, WellFormed}
-use Rattle.model.specs.Table.{Kind, Job, new_job, not_awaited, Steps, releases, works, locks, waits, goes, closes, finishes, Told}
+use Rattle.model.specs.Table.{Kind, Job, new_job, not_awaited, seat, Steps, releases, works, locks, waits, goes, closes, finishes, Told}
 use Rattle.model.specs.Sound.{Good}
 use Rattle.model.proofs.Tree.{local_root}
 use Rattle.model.proofs.Job.{good_new, good_not_awaited, good_ended, good_held, good_work, good_go, good_lock}
 use Rattle.model.proofs.History.{some_same, none_some}
 use Rattle.jobs.specs.View.{job_view, place_view, places_view, Sound, PlaceSound, AllSound}
+use Rattle.jobs.specs.declared.change.Change.{Change}
 use Rattle.jobs.specs.declared.record.JobRecord.{JobRecord}
+use Rattle.jobs.specs.Changes.{changed, changed_place}
 
 pub place_set : (ps : List (Option JobRecord)) (i : ℕ) (x : Option JobRecord) → i < length ps → places_view (set ps i x) i ≡ place_view x
 place_set ps i x l = ap place_view (get_or-set_same ps i x None l)
@@ -53,6 +55,17 @@ module _ (W : Workload) (F : WellFormed W) where
         : {V : Type 0} (K : Kind V) (H : ℕ → ℕ → Type 0) (vs : List V) (a : Told) (new : List V) (J' : Job) → J.has_finished ≡ false
         → Steps W K H vs J a new J' → Sound W J'
     sound_step K H vs a new J' u st = ∥∥₁_map S (λ g. (g.0, good_step K H vs a new J' g.0 g.1 u st))
+
+seat_view : (b : Bool) (r : JobRecord) → place_view (cond b None (Some r)) ≡ cond b none (some (job_view r))
+seat_view true r = refl
+seat_view false r = refl
+
+-- what stands at the job's place after a change
+pub changed_view
+    : (x : Option JobRecord) (r : JobRecord) (c : Change) → x ≡ Some r → place_view (changed_place x c) ≡ seat (job_view (changed r c))
+changed_view x r c e =
+    let r' = changed r c in
+    ap (λ (y : Option JobRecord). place_view (changed_place y c)) e ∙ seat_view (r'.finished && not r'.awaited) r'
 
 -- only one of the sixteen places is taken
 pub taken_within : (ps : List (Option JobRecord)) (p : ℕ) (R : JobRecord) → length ps ≡ 16 → Some R ≡ get_or ps p None → p < 16

@@ -1,5 +1,5 @@
 -- What the operations on the sixteen places do.
-use Rattle.std.specs.Prelude.{◌≡◌, ℕ, ◌<◌, ◌≤◌, true, false, List, get_or, ℤ, Some, None, Option, Ok, Err, Result, slice_index_or, slice_set}
+use Rattle.std.specs.Prelude.{◌≡◌, ℕ, ◌<◌, ◌≤◌, true, false, List, ℤ, Some, None, Option, Ok, Err, Result, slice_index_or, slice_set}
 use Rattle.model.specs.Workload.{Workload}
 use Rattle.model.specs.Table.{Kind, Steps, new_job, not_awaited, seat}
 use Rattle.jobs.specs.declared.record.JobRecord.{JobRecord}
@@ -36,4 +36,4 @@ module _ (before : List (Option JobRecord)) (p : ℕ) (after : List (Option JobR
     lets_go
         : (R R' : JobRecord) → slice_index_or before p None ≡ Some R → job_view R' ≡ not_awaited (job_view R) → after ≡ slice_set before p (Some R')
         → Unawaited
-    nobody : get_or before p None ≡ None → after ≡ before → Unawaited
+    nobody : slice_index_or before p None ≡ None → after ≡ before → Unawaited

@@ -1,5 +1,5 @@
 -- Records and places, as the definitions of the table have them.
-use Rattle.std.specs.Prelude.{◌≡◌, ℕ, Bool, true, false, List, Some, None, Option, slice_index_or}
+use Rattle.std.specs.Prelude.{◌≡◌, ℕ, Bool, true, false, List, Some, None, Option, slice_index_or, slice_set}
 use Rattle.std.proofs.Math.Option.{none, some}
 use Rattle.std.proofs.Math.Option as math
 use Rattle.itemset.specs.Members.{holds}
@@ -53,6 +53,14 @@ abbrev pub place_holds : Option JobRecord → ℕ → Bool
 place_holds None d = false
 place_holds (Some r) d = holds r.held d
 
+-- an item that a job holds was locked last from the place of that job: so no two jobs hold it
+abbrev pub HeldFrom : List ℕ → List (Option JobRecord) → Type 0
+HeldFrom lockers ps = (q d : ℕ) → Holding ps q d → slice_index_or lockers d 0 ≡ q
+
+-- what x holds was locked last from the place p
+abbrev pub LockedAt : List ℕ → ℕ → Option JobRecord → Type 0
+LockedAt lockers p x = (d : ℕ) → place_holds x d ≡ true → slice_index_or lockers d 0 ≡ p
+
 abbrev pub told_view : StepAnswer → model.Told
 told_view (Released d) = model.released d
 told_view (Worked d) = model.worked d
@@ -60,3 +68,8 @@ told_view (Locked d) = model.locked d
 told_view (Waiting d q) = model.waiting d q
 told_view (Gone s) = model.gone s
 told_view Finished = model.finished
+
+-- from which place each item was locked last, after a step at the place p
+abbrev pub lockers_after : List ℕ → ℕ → StepAnswer → List ℕ
+lockers_after lockers p (Locked d) = slice_set lockers d p
+lockers_after lockers p _ = lockers

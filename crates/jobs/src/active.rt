@@ -16,8 +16,8 @@ use workload::definition::Workload;
 #[derive(Clone, Copy)]
 pub(crate) struct ActiveJob<'a> {
     pub(crate) workload: &'a Workload,
-    pub(crate) job: JobRecord,
-    ghost sound: { Sound (view workload.now) (job_view job) },
+    pub(crate) job: &'a JobRecord,
+    ghost sound: { Sound (view workload.now) (job_view job.now) },
 }
 
 // Which of `count` arcs a register takes: it is raised to 0 if below, and cut to the last if above.
@@ -32,14 +32,14 @@ fn arc_of(register: i32, count: u8) -> u8
 impl ActiveJob<'_> {
     // The plan of the job's type.
     pub(crate) fn plan(&self) -> &Plan
-        ensures { Planned (view self.now.workload.now) self.now.job.job_type result.now }
+        ensures { Planned (view self.now.workload.now) self.now.job.now.job_type result.now }
     {
         self.workload.plan(self.job.job_type).unwrap()
     }
 
     // The job's state.
     pub(crate) fn state(&self) -> State
-        ensures { IsState (view self.now.workload.now) self.now.job.job_type self.now.job.state result }
+        ensures { IsState (view self.now.workload.now) self.now.job.now.job_type self.now.job.now.state result }
     {
         self.workload
             .state(self.job.job_type, self.job.state)
@@ -48,7 +48,7 @@ impl ActiveJob<'_> {
 
     // The state to which the register leads; nothing where the job's state is terminal.
     pub(crate) fn next_state(&self) -> Option<u8>
-        ensures { let W = view self.now.workload.now in let j = self.now.job in MatchOption result (Terminal W j.job_type j.state) (λ n. Takes W j.job_type j.state j.register n) }
+        ensures { let W = view self.now.workload.now in let j = self.now.job.now in MatchOption result (Terminal W j.job_type j.state) (λ n. Takes W j.job_type j.state j.register n) }
     {
         let state = self.state();
         if state.arc_count == 0 {
@@ -60,8 +60,8 @@ impl ActiveJob<'_> {
 
     // The unlockable set of state s of the job's type.
     pub(crate) fn unlockable(&self, s: u8) -> ItemSet
-        requires { s < (view self.now.workload.now).states self.now.job.job_type }
-        ensures { Exactly result (Unlockable (view self.now.workload.now) self.now.job.job_type s) }
+        requires { s < (view self.now.workload.now).states self.now.job.now.job_type }
+        ensures { Exactly result (Unlockable (view self.now.workload.now) self.now.job.now.job_type s) }
     {
         self.plan().unlockable[s as usize]
     }

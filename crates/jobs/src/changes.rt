@@ -1,9 +1,11 @@
-// A new record, and what a step or its owner changes in one.
+// A new record, what a step changes in one, and what its owner does.
 ghost use Rattle.std.specs.Prelude.{◌≡◌, ℕ, ◌<◌, ◌||◌};
 ghost use Rattle.itemset.specs.Members.{holds};
-ghost use Rattle.model.specs.Table.{With, Without, ended, holding, in_state, locking, new_job, not_awaited, seat, with_register};
-ghost use Rattle.jobs.specs.View.{job_view, place_view};
+ghost use Rattle.model.specs.Table.{With, Without, ended, holding, in_state, locking, new_job, not_awaited, with_register};
+ghost use Rattle.jobs.specs.Changes.{changed};
+ghost use Rattle.jobs.specs.View.{job_view};
 
+use crate::change::Change;
 use crate::record::JobRecord;
 use itemset::ItemSet;
 
@@ -26,67 +28,36 @@ impl JobRecord {
         }
     }
 
-    // The job without the item d, which it held.
-    pub(crate) fn released(self, d: u8) -> JobRecord
-        ensures job { job_view result ≡ holding (job_view self) (holds result.held) }
-        ensures held { Without (holds self.held) d (holds result.held) }
+    // The job releases the item d, which it held.
+    pub(crate) fn release(&self, d: u8) -> Change
+        ensures job { let after = changed self.now result in job_view after ≡ holding (job_view self.now) (holds after.held) }
+        ensures held { Without (holds self.now.held) d (holds (changed self.now result).held) }
     {
         let mut held = self.held;
         held.remove(d);
-        JobRecord { held, ..self }
+        Change::Held(held)
     }
 
-    // The job with the item d, which it has now locked.
-    pub(crate) fn locked_too(self, d: u8) -> JobRecord
+    // The job holds the item d, which it has now locked.
+    pub(crate) fn lock(&self, d: u8) -> Change
         requires { d < 64 }
-        ensures job { job_view result ≡ locking (job_view self) (holds result.held) (holds result.locked) }
-        ensures held { With (holds self.held) d (holds result.held) }
-        ensures locked { With (holds self.locked) d (holds result.locked) }
+        ensures job { let after = changed self.now result in job_view after ≡ locking (job_view self.now) (holds after.held) (holds after.locked) }
+        ensures held { With (holds self.now.held) d (holds (changed self.now result).held) }
+        ensures locked { With (holds self.now.locked) d (holds (changed self.now result).locked) }
     {
         let mut held = self.held;
         held.insert(d);
         let mut locked = self.locked;
         locked.insert(d);
-        JobRecord {
-            held,
-            locked,
-            ..self
-        }
+        Change::HeldAndLocked(held, locked)
     }
 
-    // The job after its state's work, which left this register.
-    pub(crate) fn after_work(self, register: i32) -> JobRecord
-        ensures { job_view result ≡ with_register (job_view self) register }
+    // The job comes to its next state, in which it does not need these items any more.
+    pub(crate) fn arrive(&self, state: u8, unlockable: ItemSet) -> Change
+        ensures job { let after = changed self.now result in job_view after ≡ in_state (job_view self.now) state (holds after.done) }
+        ensures done { (x : ℕ) → holds (changed self.now result).done x ≡ (holds self.now.done x || holds unlockable x) }
     {
-        JobRecord {
-            register,
-            worked: true,
-            ..self
-        }
-    }
-
-    // The job in its next state, in which it does not need these items any more.
-    pub(crate) fn arrived(self, state: u8, unlockable: ItemSet) -> JobRecord
-        ensures job { job_view result ≡ in_state (job_view self) state (holds result.done) }
-        ensures done { (x : ℕ) → holds result.done x ≡ (holds self.done x || holds unlockable x) }
-    {
-        let done = self.done.union(unlockable);
-        JobRecord {
-            state,
-            worked: false,
-            done,
-            ..self
-        }
-    }
-
-    // The job at its end.
-    pub(crate) fn at_end(self) -> JobRecord
-        ensures { job_view result ≡ ended (job_view self) }
-    {
-        JobRecord {
-            finished: true,
-            ..self
-        }
+        Change::Arrived(state, self.done.union(unlockable))
     }
 
     // The job, which nobody awaits any more.
@@ -96,17 +67,6 @@ impl JobRecord {
         JobRecord {
             awaited: false,
             ..self
-        }
-    }
-
-    // What stands at the job's place after its step: nothing, once it is finished and nobody awaits it.
-    pub(crate) fn seated(self) -> Option<JobRecord>
-        ensures { place_view result ≡ seat (job_view self) }
-    {
-        if self.finished && !self.awaited {
-            None
-        } else {
-            Some(self)
         }
     }
 }

@@ -10,7 +10,7 @@ impl ActiveJob<'_> {
     // The lowest held item that may go: it is not needed any more, and each of its local children was locked or is a leaf that is done.
     // Only idle items are looked at: most jobs hold few of the 64.
     pub(crate) fn lowest_going(&self) -> Option<u8>
-        ensures { let goes = MayGo (view self.now.workload.now) (job_view self.now.job) in MatchOption result ((x : ℕ) → goes x → ⊥) (Lowest goes) }
+        ensures { let goes = MayGo (view self.now.workload.now) (job_view self.now.job.now) in MatchOption result ((x : ℕ) → goes x → ⊥) (Lowest goes) }
     {
         let plan = self.plan();
         let job = self.job;

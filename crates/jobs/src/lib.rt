@@ -2,6 +2,7 @@
 #![tactic(auto)]
 
 mod active;
+mod change;
 mod changes;
 mod going;
 mod places;

@@ -1,21 +1,15 @@
 // The sixteen places.
-ghost use Rattle.std.specs.Prelude.{◌≡◌, ℕ, length, MatchOption};
-ghost use Rattle.jobs.specs.View.{Holding, place_holds};
+ghost use Rattle.std.specs.Prelude.{◌≡◌, None, slice_index_or};
+ghost use Rattle.jobs.specs.View.{place_holds};
 
 use crate::record::JobRecord;
 
-// Whether a job stands at the place and holds the item d.
-fn place_holds_item(place: Option<JobRecord>, d: u8) -> bool
-    ensures { result ≡ place_holds place d }
+// Whether the job at a place holds the item d; past the last place there is no job.
+pub(crate) fn holds_at(places: &[Option<JobRecord>], place: u8, d: u8) -> bool
+    ensures { result ≡ place_holds (slice_index_or places.now place None) d }
 {
-    place.is_some_and(|job| job.held.contains(d))
-}
-
-// A place whose job holds the item d.
-pub(crate) fn holder(places: &[Option<JobRecord>], d: u8) -> Option<u8>
-    requires { length places.now ≡ 16 }
-    ensures { MatchOption result ((q : ℕ) → Holding places.now q d → ⊥) (λ q. Holding places.now q d) }
-{
-    let q = places.iter().position(|place| place_holds_item(*place, d))?;
-    Some(q as u8)
+    match places.get(place as usize) {
+        Some(Some(job)) => job.held.contains(d),
+        _ => false,
+    }
 }

@@ -1,6 +1,7 @@
 // What is done at one of the sixteen places: the record there changes, and the fifteen others are as they were.
 // That the workload stays is a clause of each: a word for it would be no shorter.
-ghost use Rattle.std.specs.Prelude.{◌≡◌, slice_set};
+ghost use Rattle.std.specs.Prelude.{◌≡◌, true, false, Some, None, MatchOption, slice_index_or, slice_set};
+ghost use Rattle.jobs.specs.declared.record.JobRecord.{JobRecord};
 ghost use Rattle.kinds.specs.View.{view as kind_view};
 ghost use Rattle.workload.specs.View.{view};
 ghost use Rattle.jobs.specs.Turns.{Entered, Stepped, Unawaited};
@@ -30,6 +31,14 @@ impl Shift {
         Ok(())
     }
 
+    // The unfinished job at a place.
+    fn unfinished(&self, place: u8) -> Option<&JobRecord>
+        ensures { let there = slice_index_or self.now.places place None in MatchOption result ((R : JobRecord) → there ≡ Some R → R.finished ≡ true) (λ R. (there ≡ Some R.now) × (R.now.finished ≡ false)) }
+    {
+        let job = self.places.get(place as usize)?.as_ref()?;
+        (!job.finished).then_some(job)
+    }
+
     // The unfinished job at a place makes one step; nothing where there is none.
     pub fn step<K: Kind, S: WorkingStore<K>>(
         &mut self,
@@ -40,16 +49,14 @@ impl Shift {
         ensures stepped { Stepped self.old.places place self.new.places (view self.old.workload) (kind_view K.Kind) (S.ShowingStore.values store.old) (S.ShowingStore.values store.new) result }
         ensures outside { S.WorkingStore.stays store.old store.new }
     {
-        let job = self.at(place)?;
-        if job.finished {
-            return None;
-        }
+        let job = self.unfinished(place)?;
         let active = ActiveJob {
             workload: &self.workload,
             job,
         };
-        let (answer, after) = active.step::<K, S>(store, &self.places);
-        self.put(place, after.seated());
+        let (answer, change) = active.step::<K, S>(store, self);
+        self.note(place, answer);
+        self.change(place, change);
         Some(answer)
     }
 

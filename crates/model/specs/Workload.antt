@@ -61,7 +61,7 @@ pub record WellFormed (W : Workload) : Type 0 where
 abbrev pub Unreachable : Workload → ℕ → ℕ → ℕ → Type 0
 Unreachable W t s d = (r : ℕ) → Way W t s r → ¬ (W.item t r ≡ d)
 
--- The unlockable set of the state s: the items d that the job has just left behind for good.
+-- The unlockable set of the state s. A job that comes to s has just left its items behind for good.
 pub record Unlockable (W : Workload) (t s d : ℕ) : Type 0 where
   -- d is unreachable from s
   pub here : Unreachable W t s d

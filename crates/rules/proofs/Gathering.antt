@@ -1,12 +1,12 @@
 -- Sets and rows of sets that a loop gathers.
-use Rattle.std.proofs.Common.{◌≡◌, ℕ, zero, suc, ◌<◌, ◌≤◌, true, false, not, ◌&&◌, List, length, get_or, replicate, Decides, sym, ◌∙◌, subst, inl, inr, arith}
+use Rattle.std.proofs.Common.{◌≡◌, ℕ, zero, suc, ◌<◌, ◌≤◌, true, false, not, ◌&&◌, List, length, get_or, replicate, Decides, sym, refl, ◌∙◌, subst, inl, inr, arith}
 use lib.ListN.{length-replicate}
 use Rattle.std.proofs.lemmas.List.{get_or_past}
 use Rattle.std.proofs.lemmas.Bool.{cases_lt, cases_Bool, both_ways, and_parts, and_from, not-true, not_from_false}
 use Rattle.itemset.proofs.Laws.{has_none}
 use Rattle.itemset.specs.declared.ItemSet.{ItemSet}
 use Rattle.itemset.specs.Members.{holds, nothing}
-use Rattle.rules.specs.Reach.{Joined, Reaches, here, step}
+use Rattle.rules.specs.Reach.{Ahead, Joined, Reaches, here, step}
 use Rattle.rules.specs.declared.state.State.{State}
 use Rattle.rules.specs.Rules.{Arc, nowhere}
 use Rattle.rules.specs.Sets.{Exactly}
@@ -44,7 +44,7 @@ lacking P x y z p e d = (
       (not_from_false (holds y d) (elim (cases_Bool (holds y d)) [ inl h ↦ absurd (u.1 h) | inr h ↦ h ])),
 )
 
-row_none : (n s : ℕ) (x : ItemSet) (m : ℕ) → holds x m ≡ false → holds (get_or (replicate n x) s nothing) m ≡ false
+pub row_none : (n s : ℕ) (x : ItemSet) (m : ℕ) → holds x m ≡ false → holds (get_or (replicate n x) s nothing) m ≡ false
 row_none zero s x m h = has_none m
 row_none (suc n) zero x m h = h
 row_none (suc n) (suc s) x m h = row_none n s x m h
@@ -67,16 +67,42 @@ no_arc states s m l a =
 pub arc_from : (states : List State) (s m : ℕ) → Arc states s m → s < length states
 arc_from states s m a = elim (cases_lt s (length states)) [ inl l ↦ l | inr l ↦ absurd (no_arc states s m l a) ]
 
+-- an arc joins states of the type
+pub arc_below : (states : List State) → length states ≤ 32 → (s m : ℕ) → Arc states s m → (s < 32) × (m < 32)
+arc_below states few s m a = let i = arc_from states s m a in let j = a.0 in (omega arith, omega arith)
+
 pub reaches_map : {E F : ℕ → ℕ → Type 0} {s t : ℕ} → ((a b : ℕ) → E a b → F a b) → Reaches E s t → Reaches F s t
 reaches_map h here = here
 reaches_map h (step {s = a} {m = b} e p) = step (h a b e) (reaches_map h p)
 
--- the closure of n rows that hold the relation E
-pub reached_decides
-    : (E : ℕ → ℕ → Type 0) (n : ℕ) (rows last : List ItemSet) → length rows ≡ n → ((s m : ℕ) → E s m → s < n) → ((s : ℕ) → s < n → Exactly (get_or rows s nothing) (E s))
-    → ((s t : ℕ) → Joined last s t → Reaches (Joined rows) s t) → ((s t : ℕ) → s < n → Reaches (Joined rows) s t → Joined last s t)
-    → (s : ℕ) → s < n → Exactly (get_or last s nothing) (Reaches E s)
-reached_decides E n rows last long within d sound complete s l t = (
-  λ h. reaches_map (λ a b j. (d a (omega (arith, joined_within rows a b j)) b).0 j) (sound s t h),
-  λ p. complete s t l (reaches_map (λ a b e. (d a (within a b e) b).1 e) p),
-)
+-- n rows that hold the relation E, which joins numbers below n alone
+module _ (E : ℕ → ℕ → Type 0) (n : ℕ) (rows : List ItemSet) (long : length rows ≡ n) (below : (s m : ℕ) → E s m → (s < n) × (m < n))
+    (are : (s : ℕ) → s < n → Exactly (get_or rows s nothing) (E s)) where
+  pub rows_only : (s m : ℕ) → Joined rows s m → E s m
+  rows_only s m j = (are s (omega (arith, joined_within rows s m j)) m).0 j
+
+  pub rows_all : (s m : ℕ) → E s m → Joined rows s m
+  rows_all s m e = (are s (below s m e).0 m).1 e
+
+  low : {s t : ℕ} → Reaches E s t → s < n → t < n
+  low here l = l
+  low (step {s = s} {m = m} e p) l = low p (below s m e).1
+
+  -- rows that held each its own number hold what they reach, once they hold what is ahead of them
+  pub reached_along
+      : (first last : List ItemSet) → length first ≡ n → ((s : ℕ) → s < n → Exactly (get_or first s nothing) (λ t. t ≡ s))
+      → ((s : ℕ) → s < n → Exactly (get_or last s nothing) (Ahead (Joined rows) first s)) → (s : ℕ) → s < n → Exactly (get_or last s nothing) (Reaches E s)
+  reached_along first last same own ahead s l t = (
+    λ h.
+        let a = (ahead s l t).0 h in
+        let e : t ≡ a.0 = (own a.0 (omega (arith, joined_within first a.0 t a.2)) t).0 a.2 in
+        subst (λ (x : ℕ). Reaches E s x) (sym e) (reaches_map rows_only a.1),
+    λ p. (ahead s l t).1 (t, reaches_map rows_all p, (own t (low p l) t).1 refl),
+  )
+
+  -- and the rows of the converse
+  pub back_only : (back : List ItemSet) → length back ≡ n → ((m : ℕ) → m < n → Exactly (get_or back m nothing) (λ s. Joined rows s m)) → (m s : ℕ) → Joined back m s → E s m
+  back_only back same turned m s j = rows_only s m ((turned m (omega (arith, joined_within back m s j)) s).0 j)
+
+  pub back_all : (back : List ItemSet) → ((m : ℕ) → m < n → Exactly (get_or back m nothing) (λ s. Joined rows s m)) → (m s : ℕ) → E s m → Joined back m s
+  back_all back turned m s e = (turned m (below s m e).1 s).1 (rows_all s m e)

@@ -1,4 +1,6 @@
 pub mod Rows
+pub mod Members
+pub mod Spreading
 pub mod Gathering
 pub mod Trees
 pub mod Fine

@@ -10,12 +10,13 @@ use Rattle.itemset.specs.Members.{holds, nothing}
 use Rattle.rules.specs.declared.plan.Plan.{Plan}
 use Rattle.rules.specs.declared.state.State.{State}
 use Rattle.rules.specs.Plans.{HasType, Planned}
-use Rattle.rules.specs.Reach.{Joined, Reaches}
+use Rattle.rules.specs.Reach.{HeldBy, Joined, Reaches, here, step}
 use Rattle.rules.specs.Rules.{Arc, Parent, nowhere}
-use Rattle.rules.specs.Sets.{ChildIn, Deepest, Exactly, LeftBehind, NamesIn, item_at}
+use Rattle.rules.specs.Sets.{ChildIn, Deepest, Exactly, LeftBehind, Names, NamesAlong, item_at}
 use Rattle.rules.specs.View.{state_at, workload_of}
 use Rattle.rules.proofs.Formed.{top_marked}
-use Rattle.rules.proofs.Rows.{joined_within}
+use Rattle.rules.proofs.Gathering.{reaches_map}
+use Rattle.rules.proofs.Rows.{reaches_on}
 use Rattle.rules.proofs.Matching.{above_reaches, arc_in, arc_out, not_top, reaches_above, reaches_way, way_reaches}
 
 -- a way to a state begins in a state
@@ -36,15 +37,19 @@ pub record Naming (states : List State) (named : ItemSet) : Type 0 where
 
 -- what states that name items below 64 name
 module _ (states : List State) (items : (s : ℕ) → s < length states → item_at states s < 64) where
-  pub named_by : (set x : ItemSet) → Exactly x (λ d. (d < 64) × NamesIn states set d) → Exactly x (NamesIn states set)
-  named_by set x h d = (λ e. ((h d).0 e).1, λ q. (h d).1 (let i = items q.0 q.1 in omega (arith, q.2.1), q))
-
-  pub naming : (all named : ItemSet) → ((s : ℕ) → s < length states → holds all s ≡ true) → Exactly named (λ d. (d < 64) × NamesIn states all d) → Naming states named
-  naming all named a h =
+  pub naming : (named : ItemSet) → Exactly named (λ d. (d < 64) × ((s : ℕ) × Names states s d)) → Naming states named
+  naming named h =
       record {
         items = items;
-        are = λ d. (λ e. let q = ((h d).0 e).1 in (q.0, q.1, q.2.1), λ q. (named_by all named h d).1 (q.0, q.1, (a q.0 q.1, q.2)));
+        are = λ d. (λ e. let q = ((h d).0 e).1 in (q.0, q.1.0, q.1.1), λ q. (h d).1 (let i = items q.0 q.1 in omega (arith, q.2), (q.0, (q.1, q.2))));
       }
+
+  pub named_along : {E F : ℕ → ℕ → Type 0} → ((a b : ℕ) → E a b → F a b) → ((a b : ℕ) → F a b → E a b)
+      → (s : ℕ) (x : ItemSet) → Exactly x (λ d. (d < 64) × NamesAlong E states s d) → Exactly x (NamesAlong F states s)
+  named_along on back s x h d = (
+    λ e. let q = ((h d).0 e).1 in (q.0, reaches_map on q.1, q.2),
+    λ q. (h d).1 (let i = items q.0 q.2.0 in omega (arith, q.2.1), (q.0, reaches_map back q.1, q.2)),
+  )
 
 module _ (states : List State) (named : ItemSet) (N : Naming states named) (up : List ItemSet) where
   pub common_named
@@ -56,11 +61,11 @@ module _ (states : List State) (named : ItemSet) (N : Naming states named) (up :
   )
 
   pub some_named
-      : (some : ItemSet) → Exactly some (λ a. (d : ℕ) × (d < 64) × ((holds named d ≡ true) × Joined up d a))
+      : (some : ItemSet) → Exactly some (HeldBy up named)
       → Exactly some (λ a. (s : ℕ) × (s < length states) × Joined up (item_at states s) a)
   some_named some h a = (
-    λ e. let q = (h a).0 e in let n = (N.are q.0).0 q.2.0 in (n.0, n.1, subst (λ (x : ℕ). Joined up x a) (sym n.2) q.2.1),
-    λ q. (h a).1 (item_at states q.0, N.items q.0 q.1, ((N.are (item_at states q.0)).1 (q.0, q.1, refl), q.2)),
+    λ e. let q = (h a).0 e in let n = (N.are q.0).0 q.1 in (n.0, n.1, subst (λ (x : ℕ). Joined up x a) (sym n.2) q.2),
+    λ q. (h a).1 (item_at states q.0, (N.are (item_at states q.0)).1 (q.0, q.1, refl), q.2),
   )
 
 -- what a row lacks of a set
@@ -68,15 +73,17 @@ pub lacking_of
     : {P Q : ℕ → Type 0} (all x : ItemSet) → Exactly all P → Exactly x (λ d. (holds all d ≡ true) × Q d) → Exactly x (λ d. P d × Q d)
 lacking_of all x a h d = (λ e. let q = (h d).0 e in ((a d).0 q.0, q.1), λ q. (h d).1 ((a d).1 q.0, q.1))
 
--- the rows of the states: arcs, what is reached, and the items that are named ahead and behind
-pub record Going (states : List State) (arcs reached back ahead behind : List ItemSet) : Type 0 where
+-- a way the other way round
+pub turned : {E : ℕ → ℕ → Type 0} {s t : ℕ} → Reaches E s t → Reaches (λ a b. E b a) t s
+turned here = here
+turned (step e p) = reaches_on (turned p) (step e here)
+
+-- the rows of the states: those before each, and the items that are named ahead and behind
+pub record Going (states : List State) (back ahead behind : List ItemSet) : Type 0 where
   pub short : length states ≤ 32
-  pub arcs_long : length arcs ≡ 32
-  pub arcs_are : (s : ℕ) → s < 32 → Exactly (get_or arcs s nothing) (Arc states s)
-  pub reached_are : (s : ℕ) → s < 32 → Exactly (get_or reached s nothing) (Reaches (Arc states) s)
-  pub back_are : (m : ℕ) → m < 32 → Exactly (get_or back m nothing) (λ s. Joined reached s m)
-  pub ahead_are : (s : ℕ) → s < 32 → Exactly (get_or ahead s nothing) (NamesIn states (get_or reached s nothing))
-  pub behind_are : (s : ℕ) → s < 32 → Exactly (get_or behind s nothing) (NamesIn states (get_or back s nothing))
+  pub back_are : (s : ℕ) → s < 32 → Exactly (get_or back s nothing) (λ m. Arc states m s)
+  pub ahead_are : (s : ℕ) → s < 32 → Exactly (get_or ahead s nothing) (NamesAlong (Arc states) states s)
+  pub behind_are : (m : ℕ) → m < 32 → Exactly (get_or behind m nothing) (NamesAlong (λ a b. Arc states b a) states m)
 
 -- how the parts of a plan were made
 pub record Made (parents : List ℕ) (states : List State) (p : Plan) : Type 0 where
@@ -84,21 +91,16 @@ pub record Made (parents : List ℕ) (states : List State) (p : Plan) : Type 0 w
   pub shared : ItemSet
   pub rooting : Rooting parents states up shared
   pub deepest : Deepest up shared p.root
-  pub under : ItemSet
-  pub under_is : Exactly under (λ d. Joined up d p.root)
   pub local_is : Exactly p.local (λ d. Joined up d p.root × ((s : ℕ) × (s < length states) × Joined up (item_at states s) d))
   pub children_are : (d : ℕ) → d < 64 → Exactly (get_or p.children d nothing) (ChildIn parents p.local d)
   pub leaves_are : Exactly p.leaves (λ d. (d < 64) × (holds p.local d ≡ true) × ((c : ℕ) → holds (get_or p.children d nothing) c ≡ false))
-  pub way_down_is : (d : ℕ) → d < 64 → Exactly (get_or p.way_down d nothing) (λ a. (holds under a ≡ true) × Joined up d a)
   pub named_is : Exactly p.named (λ d. (s : ℕ) × (s < length states) × (item_at states s ≡ d))
-  pub arcs : List ItemSet
-  pub reached : List ItemSet
   pub back : List ItemSet
   pub ahead : List ItemSet
   pub behind : List ItemSet
-  pub going : Going states arcs reached back ahead behind
+  pub going : Going states back ahead behind
   pub unreachable_are : (s : ℕ) → s < 32 → Exactly (get_or p.unreachable s nothing) (λ d. (d < length parents) × (Joined ahead s d → ⊥))
-  pub unlockable_are : (s : ℕ) → s < 32 → Exactly (get_or p.unlockable s nothing) (LeftBehind arcs p.unreachable behind s)
+  pub unlockable_are : (s : ℕ) → s < 32 → Exactly (get_or p.unlockable s nothing) (LeftBehind back p.unreachable behind s)
 
 module _ (parents : List ℕ) (codes : ℕ) (types : List (List State)) (t : ℕ) (F : WellFormed (workload_of parents codes types)) (ht : t < length types)
     (four : (s : ℕ) → s < length (get_or types t []) → length (state_at types t s).arcs ≡ 4) where
@@ -172,18 +174,6 @@ module _ (parents : List ℕ) (codes : ℕ) (types : List (List State)) (t : ℕ
                 (s, i, (Over d s i).1 (subst (λ (x : ℕ). Above W d x) (sym h.is_named.2) h.above_named)),
               )
 
-    is_way_down
-        : (root : ℕ) (under : ItemSet) (rows : List ItemSet) → Exactly under (λ d. Joined up d root)
-        → ((d : ℕ) → d < 64 → Exactly (get_or rows d nothing) (λ a. (holds under a ≡ true) × Joined up d a))
-        → (d : ℕ) → d < length parents → Exactly (get_or rows d nothing) (λ a. Above W root a × Above W a d)
-    is_way_down root under rows u o d h a =
-        let k : d < 64 = omega (arith, R.few) in (
-          λ e. let q = (o d k a).0 e in
-              let g = (Up a d h).0 q.1 in
-              ((Up root a (above_item W F g h)).0 ((u a).0 q.0), g),
-          λ q. (o d k a).1 ((u a).1 ((Up root a (above_item W F q.1 h)).1 q.0), (Up a d h).1 q.1),
-        )
-
   module _ (few : length parents ≤ 64) (local : ItemSet) (locals : Exactly local (Local W t)) (children : List ItemSet)
       (all : (d : ℕ) → d < 64 → Exactly (get_or children d nothing) (ChildIn parents local d)) where
     is_child : (d : ℕ) → d < length parents → Exactly (get_or children d nothing) (LocalChild W t d)
@@ -225,29 +215,26 @@ module _ (parents : List ℕ) (codes : ℕ) (types : List (List State)) (t : ℕ
               λ c. elim (cases_Bool (holds (get_or children d nothing) c)) [ inl e ↦ absurd (h.childless c ((is_child d k c).0 e)) | inr e ↦ e ],
             )
 
-  module _ (arcs reached back ahead behind : List ItemSet) (G : Going (get_or types t []) arcs reached back ahead behind) where
+  module _ (back ahead behind : List ItemSet) (G : Going (get_or types t []) back ahead behind) where
     leads : (s m : ℕ) → model.Arc W t s m → m < length (get_or types t [])
     leads s m a = F.leads t s m ht a
 
-    Arcs : (s m : ℕ) → Decides (holds (get_or arcs s nothing) m) (model.Arc W t s m)
-    Arcs s m = (
-      λ e. arc_out parents codes types t four s m ((G.arcs_are s (omega (arith, joined_within arcs s m e, G.arcs_long)) m).0 e),
-      λ a. (G.arcs_are s (let i = a.0 in omega (arith, G.short)) m).1 (arc_in parents codes types t four leads s m a),
-    )
-
-    On : (s r : ℕ) → s < length (get_or types t []) → Decides (holds (get_or reached s nothing) r) (Way W t s r)
-    On s r h =
-        let u = G.reached_are s (omega (arith, G.short)) r in (
-          λ e. reaches_way parents codes types t four (u.0 e),
-          λ w. u.1 (way_reaches parents codes types t four leads w),
+    Before : (s m : ℕ) → s < length (get_or types t []) → Decides (holds (get_or back s nothing) m) (model.Arc W t m s)
+    Before s m h =
+        let u = G.back_are s (omega (arith, G.short)) m in (
+          λ e. arc_out parents codes types t four m s (u.0 e),
+          λ a. u.1 (arc_in parents codes types t four leads m s a),
         )
+
+    goes : {a b : ℕ} → Way W t a b → Reaches (Arc (get_or types t [])) a b
+    goes w = way_reaches parents codes types t four leads w
 
     -- the items that are named behind m
     Behind : (m d : ℕ) → m < length (get_or types t []) → Decides (holds (get_or behind m nothing) d) ((r : ℕ) × Way W t r m × ((state_at types t r).item ≡ d))
     Behind m d h =
-        let k : m < 32 = omega (arith, G.short) in (
-          λ e. let q = (G.behind_are m k d).0 e in (q.0, (On q.0 m q.1).0 ((G.back_are m k q.0).0 q.2.0), q.2.1),
-          λ q. let j = from_state q.1 h in (G.behind_are m k d).1 (q.0, j, ((G.back_are m k q.0).1 ((On q.0 m j).1 q.1), q.2)),
+        let u = G.behind_are m (omega (arith, G.short)) d in (
+          λ e. let q = u.0 e in (q.0, reaches_way parents codes types t four (turned q.1), q.2.1),
+          λ q. u.1 (q.0, turned (goes q.1), (from_state q.1 h, q.2)),
         )
 
     module _ (unreachable : List ItemSet)
@@ -256,11 +243,11 @@ module _ (parents : List ℕ) (codes : ℕ) (types : List (List State)) (t : ℕ
       is_unreachable s h d =
           let k : s < 32 = omega (arith, G.short) in (
             λ e. let q = (rows s k d).0 e in
-                (q.0, λ r w i. q.1 ((G.ahead_are s k d).1 (r, way_state W t leads w h, ((On s r h).1 w, i)))),
-            λ q. (rows s k d).1 (q.0, λ e. let a = (G.ahead_are s k d).0 e in q.1 a.0 ((On s a.0 h).0 a.2.0) a.2.1),
+                (q.0, λ r w i. q.1 ((G.ahead_are s k d).1 (r, goes w, (way_state W t leads w h, i)))),
+            λ q. (rows s k d).1 (q.0, λ e. let a = (G.ahead_are s k d).0 e in q.1 a.0 (reaches_way parents codes types t four a.1) a.2.1),
           )
 
-      is_unlockable : (unlockable : List ItemSet) → ((s : ℕ) → s < 32 → Exactly (get_or unlockable s nothing) (LeftBehind arcs unreachable behind s))
+      is_unlockable : (unlockable : List ItemSet) → ((s : ℕ) → s < 32 → Exactly (get_or unlockable s nothing) (LeftBehind back unreachable behind s))
           → (s : ℕ) → s < length (get_or types t []) → Exactly (get_or unlockable s nothing) (Unlockable W t s)
       is_unlockable unlockable left s h d = (to, from)
         where
@@ -271,12 +258,12 @@ module _ (parents : List ℕ) (codes : ℕ) (types : List (List State)) (t : ℕ
           to e =
               let q = (left s k d).0 e in
               let n = q.named_before in
-              let a = (Arcs n.0 s).0 n.1 in
+              let a = (Before s n.0 h).0 n.1 in
               let b = (Behind n.0 d a.0).0 n.2 in
               let u = (is_unreachable s h d).0 q.here in
               record {
                 here = u.1;
-                not_before = λ m a v. q.not_before m ((Arcs m s).1 a) ((is_unreachable m a.0 d).1 (u.0, v));
+                not_before = λ m a v. q.not_before m ((Before s m h).1 a) ((is_unreachable m a.0 d).1 (u.0, v));
                 named_before = (n.0, b.0, a, b.1, b.2);
               }
 
@@ -289,8 +276,8 @@ module _ (parents : List ℕ) (codes : ℕ) (types : List (List State)) (t : ℕ
               (left s k d).1
               (record {
                 here = (is_unreachable s h d).1 (i, u.here);
-                not_before = λ m j v. let a = (Arcs m s).0 j in u.not_before m a ((is_unreachable m a.0 d).0 v).1;
-                named_before = (m, (Arcs m s).1 a, (Behind m d a.0).1 (n.1, n.3, n.4));
+                not_before = λ m j v. let a = (Before s m h).0 j in u.not_before m a ((is_unreachable m a.0 d).0 v).1;
+                named_before = (m, (Before s m h).1 a, (Behind m d a.0).1 (n.1, n.3, n.4));
               })
 
   pub planned : (p : Plan) → Made parents (get_or types t []) p → Planned W t p
@@ -299,16 +286,15 @@ module _ (parents : List ℕ) (codes : ℕ) (types : List (List State)) (t : ℕ
       let G = M.going in
       let root = is_root M.up M.shared R p.root M.deepest in
       let locals = is_local M.up M.shared R p.root root p.local M.local_is in
-      let are = is_unreachable M.arcs M.reached M.back M.ahead M.behind G p.unreachable M.unreachable_are in
+      let are = is_unreachable M.back M.ahead M.behind G p.unreachable M.unreachable_are in
       record {
         root = root;
         local = locals;
         named = M.named_is;
         leaves = is_leaf R.few p.local locals p.children M.children_are p.leaves M.leaves_are;
         children = is_child R.few p.local locals p.children M.children_are;
-        way_down = is_way_down M.up M.shared R p.root M.under p.way_down M.under_is M.way_down_is;
         unreachable = are;
-        unlockable = is_unlockable M.arcs M.reached M.back M.ahead M.behind G p.unreachable M.unreachable_are p.unlockable M.unlockable_are;
+        unlockable = is_unlockable M.back M.ahead M.behind G p.unreachable M.unreachable_are p.unlockable M.unlockable_are;
       }
 
 -- the plan of a type with these states in a workload over this tree, where it was made of rows that are the same

@@ -3,10 +3,10 @@ use Rattle.std.proofs.Common.{◌≡◌, ℕ, ◌<◌, Bool, List, [], length, g
 use mathlib.Core.Logic.{∥∥₁_elim, ∥∥₁_map}
 use native.Mathlib.Nat.{ℕ_set}
 use native.Mathlib.Decide.{dec_lt}
-use Rattle.model.specs.Workload.{Workload, Above, WellFormed, LocalRoot}
+use Rattle.model.specs.Workload.{Workload, WellFormed, LocalRoot}
 use Rattle.model.proofs.Decide.{dec_unreachable, dec_unlockable, dec_named, dec_local, dec_child, dec_leaf}
 use Rattle.model.proofs.Formed.{told_out}
-use Rattle.model.proofs.Tree.{above?, above_item, local_root, root_one}
+use Rattle.model.proofs.Tree.{local_root, root_one}
 use Rattle.model.proofs.Ways.{dec_and, dec_true}
 use Rattle.rules.specs.declared.plan.Plan.{Plan}
 use Rattle.rules.specs.declared.state.State.{State}
@@ -25,13 +25,7 @@ module _ (W : Workload) (F : WellFormed W) (t : ℕ) (ht : t < W.types) (p : Pla
       let e : r.0 ≡ p.root = ∥∥₁_elim k (ℕ_set _ _) (λ q. root_one W F t ht r.1 q.root) in
       subst (λ (x : ℕ). LocalRoot W t x) e r.1
 
-  dec_way_down : (d a : ℕ) → d < W.items → Dec (Above W p.root a × Above W a d)
-  dec_way_down d a h = elim (above? W F a d (F.tree d h)) [
-    | yes g ↦ dec_and (above? W F p.root a (F.tree a (above_item W F g h))) (yes g)
-    | no n ↦ no (λ q. n q.1)
-  ]
-
-  settled : Planned W t p
+  pub settled : Planned W t p
   settled =
       record {
         root = the_root;
@@ -39,7 +33,6 @@ module _ (W : Workload) (F : WellFormed W) (t : ℕ) (ht : t < W.types) (p : Pla
         named = λ d. decided (dec_named W F t ht d) (∥∥₁_map k (λ q. q.named d));
         leaves = λ d. decided (dec_leaf W F t ht p.root the_root d) (∥∥₁_map k (λ q. q.leaves d));
         children = λ d h c. decided (dec_child W F t ht p.root the_root d c) (∥∥₁_map k (λ q. q.children d h c));
-        way_down = λ d h a. decided (dec_way_down d a h) (∥∥₁_map k (λ q. q.way_down d h a));
         unreachable = λ s h d. decided (dec_and (dec_lt d W.items) (dec_unreachable W F t ht s d h)) (∥∥₁_map k (λ q. q.unreachable s h d));
         unlockable = λ s h d. decided (dec_unlockable W F t ht s d h) (∥∥₁_map k (λ q. q.unlockable s h d));
       }

@@ -1,7 +1,9 @@
 -- Relations on numbers that a row of sets holds, and what can be reached along a relation.
-use Rattle.std.specs.Prelude.{◌≡◌, ℕ, true, List, slice_index_or}
+use Rattle.std.specs.Prelude.{◌≡◌, ℕ, ◌-◌, ◌<◌, ◌⊎◌, Bool, true, false, List, slice_index_or}
 use Rattle.itemset.specs.Members.{holds, nothing}
 use Rattle.itemset.specs.declared.ItemSet.{ItemSet}
+use Rattle.rules.specs.declared.closure.Order.{Order}
+use Rattle.rules.specs.declared.closure.Order.TheVariants.{Up, Down}
 
 -- row s holds t; a row past the end holds nothing
 abbrev pub Joined : List ItemSet → ℕ → ℕ → Type 0
@@ -11,3 +13,39 @@ Joined rows s t = holds (slice_index_or rows s nothing) t ≡ true
 pub data Reaches (E : ℕ → ℕ → Type 0) : ℕ → ℕ → Type 0 where
   here : {s : ℕ} → Reaches E s s
   step : {s m t : ℕ} → E s m → Reaches E m t → Reaches E s t
+
+-- some number of the set is joined to t
+abbrev pub HeldBy : List ItemSet → ItemSet → ℕ → Type 0
+HeldBy rows set t = (m : ℕ) × (holds set m ≡ true) × Joined rows m t
+
+-- some number that s reaches is joined to t
+abbrev pub Ahead : (ℕ → ℕ → Type 0) → List ItemSet → ℕ → ℕ → Type 0
+Ahead E rows s t = (m : ℕ) × Reaches E s m × Joined rows m t
+
+-- each row still holds what it held
+abbrev pub Keeps : List ItemSet → List ItemSet → Type 0
+Keeps old new = (s t : ℕ) → Joined old s t → Joined new s t
+
+-- some row holds a number that it did not hold
+abbrev pub Gains : List ItemSet → List ItemSet → Type 0
+Gains old new = (s t : ℕ) × (t < 64) × Joined new s t × (Joined old s t → ⊥)
+
+-- row s took over what the rows of the set's numbers held, and no other row changed; `news` is whether it lacked any of that
+pub record TakesOver (old new : List ItemSet) (s : ℕ) (set : ItemSet) (news : Bool) : Type 0 where
+  pub kept : Keeps old new
+  pub only : (r t : ℕ) → Joined new r t → Joined old r t ⊎ ((r ≡ s) × HeldBy old set t)
+  pub took : (t : ℕ) → HeldBy old set t → Joined new s t
+  pub quiet : news ≡ false → new ≡ old
+  pub loud : news ≡ true → Gains old new
+
+-- the rows took over what is ahead of them along the relation, if not all of it; `more` is whether they may lack some of it
+pub record Pulls (E : ℕ → ℕ → Type 0) (old new : List ItemSet) (more : Bool) : Type 0 where
+  pub kept : Keeps old new
+  pub only : (s t : ℕ) → Joined new s t → Ahead E old s t
+  pub quiet : more ≡ false → (s m t : ℕ) → E s m → Joined new m t → Joined new s t
+  pub loud : more ≡ true → Gains old new
+
+-- the number whose turn it is after k others, of n
+abbrev pub turn : Order → ℕ → ℕ → ℕ
+turn Up n k = k
+turn Down n k = n - 1 - k

@@ -3,7 +3,7 @@ use Rattle.std.specs.Prelude.{◌≡◌, ℕ, ◌<◌, true, List, length, Decid
 use Rattle.itemset.specs.declared.ItemSet.{ItemSet}
 use Rattle.itemset.specs.Members.{holds, nothing}
 use Rattle.rules.specs.declared.state.State.{State}
-use Rattle.rules.specs.Reach.{Joined}
+use Rattle.rules.specs.Reach.{Joined, Reaches}
 use Rattle.rules.specs.Rules.{nowhere}
 
 -- the set holds the numbers of which P holds, and no other
@@ -18,14 +18,22 @@ Rows n rows R = (s : ℕ) → s < n → Exactly (slice_index_or rows s nothing) 
 abbrev pub item_at : List State → ℕ → ℕ
 item_at states s = (slice_index_or states s nowhere).item
 
--- a state of the set names d
-abbrev pub NamesIn : List State → ItemSet → ℕ → Type 0
-NamesIn states set d = (s : ℕ) × (s < length states) × ((holds set s ≡ true) × (item_at states s ≡ d))
+-- the state s names d
+abbrev pub Names : List State → ℕ → ℕ → Type 0
+Names states s d = (s < length states) × (item_at states s ≡ d)
+
+-- a state to which a way along the relation leads from s names d
+abbrev pub NamesAlong : (ℕ → ℕ → Type 0) → List State → ℕ → ℕ → Type 0
+NamesAlong E states s d = (r : ℕ) × Reaches E s r × Names states r d
 
 -- a is in the set, and its row has all that is in the set
 pub record Deepest (rows : List ItemSet) (set : ItemSet) (a : ℕ) : Type 0 where
   pub inside : holds set a ≡ true
   pub below_all : (b : ℕ) → holds set b ≡ true → Joined rows a b
+
+-- c is an item, and d its parent
+abbrev pub ChildOf : List ℕ → ℕ → ℕ → Type 0
+ChildOf parents d c = (c < length parents) × (slice_index_or parents c 0 ≡ d)
 
 -- d and c are in the set, and d is the parent of c
 pub record ChildIn (parents : List ℕ) (set : ItemSet) (d c : ℕ) : Type 0 where
@@ -34,8 +42,8 @@ pub record ChildIn (parents : List ℕ) (set : ItemSet) (d c : ℕ) : Type 0 whe
   pub parent : slice_index_or parents c 0 ≡ d
   pub below : holds set c ≡ true
 
--- d is unreachable from s, but from no state that has an arc to s, and behind one of these
-pub record LeftBehind (arcs unreachable behind : List ItemSet) (s d : ℕ) : Type 0 where
+-- d is unreachable from s, but from no state before s, and behind one of these
+pub record LeftBehind (back unreachable behind : List ItemSet) (s d : ℕ) : Type 0 where
   pub here : Joined unreachable s d
-  pub not_before : (m : ℕ) → Joined arcs m s → Joined unreachable m d → ⊥
-  pub named_before : (m : ℕ) × Joined arcs m s × Joined behind m d
+  pub not_before : (m : ℕ) → Joined back s m → Joined unreachable m d → ⊥
+  pub named_before : (m : ℕ) × Joined back s m × Joined behind m d

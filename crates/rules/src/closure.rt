@@ -1,11 +1,41 @@
 // Relations on numbers, each held as a row of sets.
-ghost use Rattle.std.specs.Prelude.{◌≡◌, ℕ, ◌<◌, ◌≤◌, ◌&&◌, ◌||◌, length, ◌==◌, slice_index_or};
-ghost use Rattle.rules.specs.Reach.{Joined, Reaches};
+ghost use Rattle.std.specs.Prelude.{◌≡◌, ℕ, ◌<◌, ◌≤◌, ◌⊎◌, true, length, slice_index_or};
+ghost use Rattle.rules.specs.Reach.{Ahead, HeldBy, Joined, Pulls, TakesOver, turn};
 ghost use Rattle.rules.specs.Sets.{Exactly, Rows};
 ghost use Rattle.itemset.specs.Members.{holds, nothing};
 
 use crate::places::places;
 use itemset::ItemSet;
+
+// The set of one number.
+fn only(d: usize) -> ItemSet
+    requires { d < 64 }
+    ensures { Exactly result (λ t. t ≡ d) }
+{
+    let mut set = ItemSet::empty();
+    set.insert(d as u8);
+    set
+}
+
+// In which order the rows of a relation are gone through.
+#[derive(Clone, Copy)]
+pub(crate) enum Order {
+    Up,
+    Down,
+}
+
+impl Order {
+    // The number whose turn it is after k others, of n.
+    fn turn(self, n: usize, k: usize) -> usize
+        requires { k < n }
+        ensures { result ≡ turn self n k }
+    {
+        match self {
+            Order::Up => k,
+            Order::Down => n - 1 - k,
+        }
+    }
+}
 
 // A relation from the numbers below N, at most 64, to those that a set can hold: for each the set of those that it is joined to.
 #[derive(Clone, Copy)]
@@ -27,6 +57,14 @@ impl<const N: usize> Relation<N> {
         }
     }
 
+    // Each number joined to itself.
+    pub(crate) fn selves() -> Relation<N>
+        requires { N ≤ 64 }
+        ensures { Rows N result.rows (λ s t. t ≡ s) }
+    {
+        Relation::from_fn(only)
+    }
+
     // The relation whose rows f makes of the rows of this one. By the array's own `map` a plan takes half as long again.
     pub(crate) fn each<F: Fn(ItemSet) -> ItemSet>(&self, f: F) -> Relation<N>
         requires { (row : ItemSet) → F.pre f row }
@@ -39,37 +77,64 @@ impl<const N: usize> Relation<N> {
         Relation { rows }
     }
 
-    // Each number joined to itself.
-    fn join_selves(&mut self)
-        ensures { (s t : ℕ) → s < N → holds (slice_index_or self.new.rows s nothing) t ≡ (holds (slice_index_or self.old.rows s nothing) t || t == s) }
+    // What the rows of the set's numbers hold together.
+    pub(crate) fn held_by(&self, set: ItemSet) -> ItemSet
+        ensures { Exactly result (HeldBy self.now.rows set) }
     {
-        for (s, row) in self.rows.iter_mut().enumerate() {
-            row.insert(s as u8);
+        let mut held = ItemSet::empty();
+        let mut rest = set;
+        while let Some(m) = rest.lowest() {
+            if (m as usize) < N {
+                held = held.union(self.rows[m as usize]);
+            }
+            rest.remove(m);
         }
+        held
     }
 
-    // Each row that holds k takes over what row k holds.
-    fn join_through(&mut self, k: usize)
-        requires { k < N }
-        ensures { (s t : ℕ) → s < N → holds (slice_index_or self.new.rows s nothing) t ≡ (holds (slice_index_or self.old.rows s nothing) t || (holds (slice_index_or self.old.rows s nothing) k && holds (slice_index_or self.old.rows k nothing) t)) }
+    // Row s takes over what the rows of the set's numbers hold. Tells whether it lacked any of that.
+    fn take_over(&mut self, s: usize, set: ItemSet) -> bool
+        requires { s < N }
+        ensures { TakesOver self.old.rows self.new.rows s set result }
     {
-        let via = self.rows[k];
-        for row in self.rows.iter_mut() {
-            if row.contains(k as u8) {
-                *row = row.union(via);
+        let news = self.held_by(set).difference(self.rows[s]);
+        if news.lowest().is_none() {
+            return false;
+        }
+        self.rows[s] = self.rows[s].union(news);
+        true
+    }
+
+    // Each row takes over what the rows hold to which the other relation joins its number. Tells whether it may still lack some of that:
+    // not where no row lacked any, nor where each number is joined only to such whose turn came before its own.
+    fn pull(&mut self, along: &Relation<N>, count: usize, order: Order) -> bool
+        requires count { count ≤ N }
+        requires within { (s m : ℕ) → Joined along.now.rows s m → s < count }
+        ensures { Pulls (Joined along.now.rows) self.old.rows self.new.rows result }
+    {
+        let mut news = false;
+        let mut ordered = true;
+        let mut seen = ItemSet::empty();
+        for k in 0..count {
+            let s = order.turn(count, k);
+            let next = along.rows[s];
+            ordered = ordered && next.is_subset(seen);
+            seen.insert(s as u8);
+            if self.take_over(s, next) {
+                news = true;
             }
         }
+        news && !ordered
     }
 
-    // Joins each number to all that can be reached from it.
-    pub(crate) fn close(&mut self)
-        ensures sound { (s t : ℕ) → Joined self.new.rows s t → Reaches (Joined self.old.rows) s t }
-        ensures complete { (s t : ℕ) → s < N → Reaches (Joined self.old.rows) s t → Joined self.new.rows s t }
+    // Each row takes over what the rows of all numbers hold that can be reached from its own along the other relation.
+    // Only the first `count` numbers are joined to any; the order in which steps are seldom taken before what they lead to ends soonest.
+    pub(crate) fn spread(&mut self, along: &Relation<N>, count: usize, order: Order)
+        requires count { count ≤ N }
+        requires within { (s m : ℕ) → Joined along.now.rows s m → s < count }
+        ensures { Rows N self.new.rows (Ahead (Joined along.now.rows) self.old.rows) }
     {
-        for k in 0..N {
-            self.join_through(k);
-        }
-        self.join_selves();
+        while self.pull(along, count, order) {}
     }
 
     // The numbers whose row holds m.
@@ -81,10 +146,30 @@ impl<const N: usize> Relation<N> {
 }
 
 impl Relation<32> {
+    // The numbers of the set are joined to s too.
+    fn join_to(&mut self, set: ItemSet, s: u8)
+        requires { s < 64 }
+        ensures { Rows 32 self.new.rows (λ m t. Joined self.old.rows m t ⊎ ((t ≡ s) × (holds set m ≡ true))) }
+    {
+        let mut rest = set;
+        while let Some(m) = rest.lowest() {
+            if m < 32 {
+                self.rows[m as usize].insert(s);
+            }
+            rest.remove(m);
+        }
+    }
+
     // The converse relation: m is joined to s where s was joined to m.
     pub(crate) fn converse(&self) -> Relation<32>
         ensures { Rows 32 result.rows (λ m s. Joined self.now.rows s m) }
     {
-        Relation::from_fn(|m| self.column(m as u8))
+        let mut converse = Relation {
+            rows: [ItemSet::empty(); 32],
+        };
+        for (s, row) in self.rows.iter().enumerate() {
+            converse.join_to(*row, s as u8);
+        }
+        converse
     }
 }

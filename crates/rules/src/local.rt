@@ -7,12 +7,11 @@ ghost use Rattle.rules.specs.Sets.{ChildIn, Deepest, Exactly, Rows};
 
 use crate::closure::Relation;
 use crate::places::places;
-use crate::tree::Tree;
+use crate::tree::LockTree;
 use itemset::ItemSet;
 
 impl Relation<64> {
     // The items that are, or lie above, every item of the set.
-    // Apart from `some_above`: one function for both would take the first set and the join, and say less of the result.
     pub(crate) fn common_above(&self, set: ItemSet) -> ItemSet
         ensures { Exactly result (λ a. (a < 64) × ((d : ℕ) → d < 64 → holds set d ≡ true → Joined self.now.rows d a)) }
     {
@@ -23,19 +22,6 @@ impl Relation<64> {
             }
         }
         common
-    }
-
-    // The items that are, or lie above, some item of the set.
-    pub(crate) fn some_above(&self, set: ItemSet) -> ItemSet
-        ensures { Exactly result (λ a. (d : ℕ) × (d < 64) × ((holds set d ≡ true) × Joined self.now.rows d a)) }
-    {
-        let mut any = ItemSet::empty();
-        for (d, row) in self.rows.iter().enumerate() {
-            if set.contains(d as u8) {
-                any = any.union(*row);
-            }
-        }
-        any
     }
 
     // The item of the set that lies below all the others.
@@ -50,13 +36,6 @@ impl Relation<64> {
         None
     }
 
-    // What each row has of the set.
-    pub(crate) fn within(&self, set: ItemSet) -> Relation<64>
-        ensures { Rows 64 result.rows (λ d a. (holds set a ≡ true) × Joined self.now.rows d a) }
-    {
-        self.each(|row| set.intersection(row))
-    }
-
     // The items of the set whose row is empty.
     pub(crate) fn childless_in(&self, set: ItemSet) -> ItemSet
         ensures { Exactly result (λ d. (d < 64) × (holds set d ≡ true) × ((c : ℕ) → holds (slice_index_or self.now.rows d nothing) c ≡ false)) }
@@ -65,17 +44,22 @@ impl Relation<64> {
     }
 }
 
-impl<'a> Tree<'a> {
+impl<'a> LockTree<'a> {
+    // The children of item d, where it and they are in the set.
+    fn children_of(&self, d: usize, set: ItemSet) -> ItemSet
+        requires { d < 64 }
+        ensures { Exactly result (ChildIn self.now.tree.parents.now set d) }
+    {
+        if !set.contains(d as u8) {
+            return ItemSet::empty();
+        }
+        self.children.rows[d].intersection(set)
+    }
+
     // For each item its children, where both are in the set.
     pub(crate) fn children_in(&self, set: ItemSet) -> Relation<64>
-        ensures { Rows 64 result.rows (ChildIn self.now.parents.now set) }
+        ensures { Rows 64 result.rows (ChildIn self.now.tree.parents.now set) }
     {
-        let mut rows = [ItemSet::empty(); 64];
-        for (c, &d) in self.parents.iter().enumerate() {
-            if d < 64 && set.contains(d) && set.contains(c as u8) {
-                rows[d as usize].insert(c as u8);
-            }
-        }
-        Relation { rows }
+        Relation::from_fn(|d| self.children_of(d, set))
     }
 }

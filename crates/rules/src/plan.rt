@@ -3,8 +3,9 @@ ghost use Rattle.std.specs.Prelude.{ℕ, ◌<◌, length, Decides, MatchOption};
 ghost use Rattle.rules.specs.Plans.{NoType, PlanFor};
 ghost use Rattle.rules.specs.Sets.{item_at};
 
+use crate::closure::Order;
 use crate::state::State;
-use crate::tree::Tree;
+use crate::tree::LockTree;
 use crate::unlocking::each_left_behind;
 use crate::ways::Graph;
 use itemset::ItemSet;
@@ -21,8 +22,6 @@ pub struct Plan {
     pub leaves: ItemSet,
     // for each item its children in the local lock tree
     pub children: [ItemSet; 64],
-    // for each item the items on the way from the local root down to it, both ends counted
-    pub way_down: [ItemSet; 64],
     // for each state its unreachable and its unlockable set
     pub unreachable: [ItemSet; 32],
     pub unlockable: [ItemSet; 32],
@@ -35,32 +34,32 @@ fn all_name_below(states: &[State], n: usize) -> bool
     states.iter().all(|state| (state.item as usize) < n)
 }
 
-// The plan of a job type with these states, over the tree that the parent bytes make;
-// nothing where no workload has such a type.
-pub fn plan_of(parents: &[u8], states: &[State]) -> Option<Plan>
-    ensures { MatchOption result (NoType parents.now states.now) (PlanFor parents.now states.now) }
+// The plan of a job type with these states over the tree. It is right in every workload that has such a type, and nothing
+// is answered only where no workload has one.
+pub fn plan_of(lock: &LockTree, states: &[State]) -> Option<Plan>
+    ensures { MatchOption result (NoType lock.now.tree.parents.now states.now) (PlanFor lock.now.tree.parents.now states.now) }
 {
-    let tree = Tree::of(parents)?;
+    let tree = &lock.tree;
+    let up = &lock.above;
     let graph = Graph::of(states)?;
-    if !all_name_below(states, parents.len()) {
+    if !all_name_below(states, tree.parents.len()) {
         return None;
     }
-    let up = tree.above();
-    let named = graph.named_in(ItemSet::below(32));
+    let named = graph.named();
     let root = up.deepest_of(up.common_above(named))?;
     let under = up.column(root);
-    let local = under.intersection(up.some_above(named));
-    let children = tree.children_in(local);
+    let local = under.intersection(up.held_by(named));
+    let children = lock.children_in(local);
     let leaves = children.childless_in(local);
     // The checker follows a row of a field into the plan only through a variable.
     let children = children.rows;
-    let way_down = up.within(under).rows;
     let arcs = graph.arcs();
-    let reached = graph.reached();
-    let ahead = graph.each_named(&reached);
-    let behind = graph.each_named(&reached.converse());
+    let back = arcs.converse();
+    let names = graph.names();
+    let ahead = graph.named_along(names, &arcs, Order::Down);
+    let behind = graph.named_along(names, &back, Order::Up);
     let unreachable = ahead.lacking(tree.items());
-    let unlockable = each_left_behind(&arcs, &unreachable, &behind).rows;
+    let unlockable = each_left_behind(&back, &unreachable, &behind).rows;
     let unreachable = unreachable.rows;
     Some(Plan {
         root,
@@ -68,7 +67,6 @@ pub fn plan_of(parents: &[u8], states: &[State]) -> Option<Plan>
         named,
         leaves,
         children,
-        way_down,
         unreachable,
         unlockable,
     })

@@ -2,9 +2,9 @@
 ghost use Rattle.std.specs.Prelude.{◌≡◌, ◌<◌, ◌≤◌, length, Decides, MatchOption, slice_index};
 ghost use Rattle.rules.specs.Reach.{Reaches};
 ghost use Rattle.rules.specs.Rules.{AllRooted, BreaksAt, Parent, RightParent};
-ghost use Rattle.rules.specs.Sets.{Exactly, Rows};
+ghost use Rattle.rules.specs.Sets.{ChildOf, Exactly, Rows};
 
-use crate::closure::Relation;
+use crate::closure::{Order, Relation};
 use crate::places::{meet, places};
 use itemset::ItemSet;
 
@@ -56,9 +56,23 @@ impl<'a> Tree<'a> {
     pub(crate) fn above(&self) -> Relation<64>
         ensures { Rows 64 result.rows (Reaches (Parent self.now.parents.now)) }
     {
-        let mut above = Relation::from_fn(|i| self.parent_of(i));
-        above.close();
+        let parents = Relation::from_fn(|i| self.parent_of(i));
+        let mut above = Relation::selves();
+        above.spread(&parents, self.parents.len(), Order::Up);
         above
+    }
+
+    // For each item its children.
+    fn children(&self) -> Relation<64>
+        ensures { Rows 64 result.rows (ChildOf self.now.parents.now) }
+    {
+        let mut rows = [ItemSet::empty(); 64];
+        for (c, &d) in self.parents.iter().enumerate() {
+            if d < 64 {
+                rows[d as usize].insert(c as u8);
+            }
+        }
+        Relation { rows }
     }
 
     // The items that have the root's mark.
@@ -85,6 +99,32 @@ impl<'a> Tree<'a> {
         let above = self.above();
         let marked = self.marked();
         (0..self.parents.len()).find(|&i| !self.right_byte(i) || !meet(above.rows[i], marked))
+    }
+}
+
+// A tree with, for each item, itself and the items above it, and its children, so that the plans of all job types over it share these.
+#[derive(Drop)]
+pub struct LockTree<'a> {
+    pub(crate) tree: Tree<'a>,
+    pub(crate) above: Relation<64>,
+    pub(crate) children: Relation<64>,
+    ghost above_are: { ∥ Rows 64 above.rows (Reaches (Parent tree.parents.now)) ∥₁ },
+    ghost children_are: { Rows 64 children.rows (ChildOf tree.parents.now) },
+}
+
+impl<'a> LockTree<'a> {
+    // Nothing where there are more items than a set can hold.
+    pub fn of(parents: &'a [u8]) -> Option<LockTree<'a>>
+        ensures { MatchOption result (64 < length parents.now) (λ lock. lock.tree.parents.now ≡ parents.now) }
+    {
+        let tree = Tree::of(parents)?;
+        let above = tree.above();
+        let children = tree.children();
+        Some(LockTree {
+            tree,
+            above,
+            children,
+        })
     }
 }
 

@@ -1,33 +1,58 @@
 // What a job has no more need of: for each state of its type, the items that no state ahead names,
 // and those of them that the job has just left behind.
-ghost use Rattle.std.specs.Prelude.{◌≡◌, ◌<◌, true, slice_index_or};
-ghost use Rattle.itemset.specs.Members.{holds, nothing};
+ghost use Rattle.std.specs.Prelude.{◌≡◌, ℕ, ◌<◌, true, length, slice_index_or};
+ghost use Rattle.itemset.specs.Members.{holds};
 ghost use Rattle.rules.specs.Reach.{Joined};
-ghost use Rattle.rules.specs.Sets.{Exactly, LeftBehind, NamesIn, Rows};
+ghost use Rattle.rules.specs.Sets.{Exactly, LeftBehind, Names, NamesAlong, Rows};
 
-use crate::closure::Relation;
+use crate::closure::{Order, Relation};
 use crate::ways::Graph;
 use itemset::ItemSet;
 
 impl<'a> Graph<'a> {
-    // The items that the states of the set name.
-    pub(crate) fn named_in(&self, set: ItemSet) -> ItemSet
-        ensures { Exactly result (λ d. (d < 64) × NamesIn self.now.states.now set d) }
+    // The items that the states name.
+    pub(crate) fn named(&self) -> ItemSet
+        ensures { Exactly result (λ d. (d < 64) × ((s : ℕ) × Names self.now.states.now s d)) }
     {
         let mut named = ItemSet::empty();
-        for (s, state) in self.states.iter().enumerate() {
-            if set.contains(s as u8) {
-                named.insert(state.item);
-            }
+        for state in self.states {
+            named.insert(state.item);
         }
         named
     }
 
-    // For each row of states the items that they name.
-    pub(crate) fn each_named(&self, rows: &Relation<32>) -> Relation<32>
-        ensures { Rows 32 result.rows (λ s d. (d < 64) × NamesIn self.now.states.now (slice_index_or rows.now.rows s nothing) d) }
+    // The item that state s names; none where there is no such state.
+    fn name(&self, s: usize) -> ItemSet
+        ensures { Exactly result (λ d. (d < 64) × Names self.now.states.now s d) }
     {
-        rows.each(|row| self.named_in(row))
+        let mut name = ItemSet::empty();
+        if let Some(state) = self.states.get(s) {
+            name.insert(state.item);
+        }
+        name
+    }
+
+    // For each state the item that it names.
+    pub(crate) fn names(&self) -> Relation<32>
+        ensures { Rows 32 result.rows (λ s d. (d < 64) × Names self.now.states.now s d) }
+    {
+        Relation::from_fn(|s| self.name(s))
+    }
+
+    // For each state the items that the states name to which ways along the relation lead; `names` has what each state names itself.
+    pub(crate) fn named_along(
+        &self,
+        names: Relation<32>,
+        along: &Relation<32>,
+        order: Order,
+    ) -> Relation<32>
+        requires names { Rows 32 names.rows (λ s d. (d < 64) × Names self.now.states.now s d) }
+        requires within { (s m : ℕ) → Joined along.now.rows s m → s < length self.now.states.now }
+        ensures { Rows 32 result.rows (λ s d. (d < 64) × NamesAlong (Joined along.now.rows) self.now.states.now s d) }
+    {
+        let mut named = names;
+        named.spread(along, self.states.len(), order);
+        named
     }
 }
 
@@ -40,35 +65,29 @@ impl Relation<32> {
     }
 }
 
-// What a job has just left behind when it comes to state s.
+// What a job has just left behind when it comes to state s. Each state is joined to those that have an arc to it by `back`.
 fn left_behind(
-    arcs: &Relation<32>,
+    back: &Relation<32>,
     unreachable: &Relation<32>,
     behind: &Relation<32>,
     s: usize,
 ) -> ItemSet
     requires { s < 32 }
-    ensures { Exactly result (LeftBehind arcs.now.rows unreachable.now.rows behind.now.rows s) }
+    ensures { Exactly result (LeftBehind back.now.rows unreachable.now.rows behind.now.rows s) }
 {
-    let mut already = ItemSet::empty();
-    let mut before = ItemSet::empty();
-    // By number, since three rows are read at one state.
-    for (m, row) in arcs.rows.iter().enumerate() {
-        if row.contains(s as u8) {
-            already = already.union(unreachable.rows[m]);
-            before = before.union(behind.rows[m]);
-        }
-    }
-    before.intersection(unreachable.rows[s]).difference(already)
+    let before = back.rows[s];
+    let named = behind.held_by(before);
+    let already = unreachable.held_by(before);
+    named.intersection(unreachable.rows[s]).difference(already)
 }
 
 // For each state what a job has just left behind when it comes there.
 pub(crate) fn each_left_behind(
-    arcs: &Relation<32>,
+    back: &Relation<32>,
     unreachable: &Relation<32>,
     behind: &Relation<32>,
 ) -> Relation<32>
-    ensures { Rows 32 result.rows (LeftBehind arcs.now.rows unreachable.now.rows behind.now.rows) }
+    ensures { Rows 32 result.rows (LeftBehind back.now.rows unreachable.now.rows behind.now.rows) }
 {
-    Relation::from_fn(|s| left_behind(arcs, unreachable, behind, s))
+    Relation::from_fn(|s| left_behind(back, unreachable, behind, s))
 }

@@ -4,7 +4,7 @@ ghost use Rattle.rules.specs.Reach.{Reaches};
 ghost use Rattle.rules.specs.Rules.{AllPlaced, Arc, Leads, StraysAt, Terminal};
 ghost use Rattle.rules.specs.Sets.{Exactly, Rows};
 
-use crate::closure::Relation;
+use crate::closure::{Order, Relation};
 use crate::places::{meet, places};
 use crate::state::State;
 use itemset::ItemSet;
@@ -25,8 +25,9 @@ fn next_states(state: &State, count: usize) -> ItemSet
     ensures { Exactly result (λ m. (m < count) × Leads state.now m) }
 {
     let mut next = ItemSet::empty();
-    for (k, &arc) in state.arcs.iter().enumerate() {
-        if k < state.arc_count as usize && (arc as usize) < count {
+    for k in 0..state.arc_count.min(4) as usize {
+        let arc = state.arcs[k];
+        if (arc as usize) < count {
             next.insert(arc);
         }
     }
@@ -65,8 +66,8 @@ impl<'a> Graph<'a> {
     pub(crate) fn reached(&self) -> Relation<32>
         ensures { Rows 32 result.rows (Reaches (Arc self.now.states.now)) }
     {
-        let mut reached = self.arcs();
-        reached.close();
+        let mut reached = Relation::selves();
+        reached.spread(&self.arcs(), self.states.len(), Order::Down);
         reached
     }
 

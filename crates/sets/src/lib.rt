@@ -31,8 +31,9 @@ pub fn unreachable(workload: &Workload, t: u8, s: u8) -> Option<ItemSet>
     plan_at(workload, t, s).map(|plan| plan.unreachable[s as usize])
 }
 
-// The unlockable set of state s of type t: the items that a job has just left behind for good when it comes to s.
+// The unlockable set of state s of type t. A job that comes to s has just left its items behind for good.
 // Nothing where there is no such state.
+#[tactic(auto, using(crate::proofs::Within::unlockable_items))]
 pub fn unlockable(workload: &Workload, t: u8, s: u8) -> Option<ItemSet>
     ensures { Answers result (HasState (view workload.now) t s) (ItemsOf (view workload.now) (Unlockable (view workload.now) t s)) }
 {
@@ -48,6 +49,7 @@ pub fn local_root(workload: &Workload, t: u8) -> Option<u8>
 }
 
 // The items of the local lock tree of type t. Nothing where there is no such type.
+#[tactic(auto, using(crate::proofs::Within::local_item))]
 pub fn local_items(workload: &Workload, t: u8) -> Option<ItemSet>
     ensures { Answers result (t < (view workload.now).types) (ItemsOf (view workload.now) (Local (view workload.now) t)) }
 {

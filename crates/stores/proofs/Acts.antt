@@ -1,5 +1,5 @@
 -- What an act at item i makes of a list: cut short, joined, and by `set`.
-use Rattle.std.proofs.Common.{◌≡◌, ℕ, zero, suc, ◌-◌, ◌<◌, ◌≤◌, List, [], ◌∷◌, ◌++◌, length, take, set, ℤ, Option, Some, None, sym, refl, ap, ◌∙◌, arith}
+use Rattle.std.proofs.Common.{◌≡◌, ℕ, zero, suc, ◌-◌, ◌<◌, ◌≤◌, List, [], ◌∷◌, ◌++◌, length, take, drop, set, ℤ, Option, Some, None, sym, refl, ap, ◌∙◌, arith}
 use Rattle.std.specs.Borrow.{Bor}
 use Rattle.std.specs.Option.{option_copied, option_map}
 use Rattle.std.specs.Slice.{IsItemAt}
@@ -58,6 +58,13 @@ module _ {V : Type 0} (act : V → ℕ → ℤ → ℤ → V × ℤ) (code : ℕ
   after_take (suc n) [] i h = refl
   after_take (suc n) (x ∷ xs) zero h = refl
   after_take (suc n) (x ∷ xs) (suc i) h = ap (λ ys. x ∷ ys) (after_take n xs i (omega arith))
+
+  -- and what comes after them stays
+  pub after_drop : (n : ℕ) (xs : List V) (i : ℕ) → i < n → drop n (after xs i) ≡ drop n xs
+  after_drop zero xs i h = absurd (let z : ⊥ = omega arith in z)
+  after_drop (suc n) [] i h = refl
+  after_drop (suc n) (x ∷ xs) zero h = refl
+  after_drop (suc n) (x ∷ xs) (suc i) h = after_drop n xs i (omega arith)
 
   -- of two lists that are joined the act is done in one
   pub after_left : (xs ys : List V) (i : ℕ) → i < length xs → after (xs ++ ys) i ≡ after xs i ++ ys

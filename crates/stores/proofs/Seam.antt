@@ -1,11 +1,11 @@
 -- Item i of two joined lists, and an act there: in the first list, in the second, or nowhere.
-use Rattle.std.proofs.Common.{◌≡◌, ℕ, ◌-◌, List, ◌++◌, length, ℤ, Some, None, sym, ap, ◌∙◌, arith, length-take}
+use Rattle.std.proofs.Common.{◌≡◌, ℕ, ◌-◌, List, ◌++◌, length, drop, ℤ, Some, None, sym, ap, ◌∙◌, arith, length-take}
 use Rattle.std.specs.List.{slice_get}
 use Rattle.std.proofs.lemmas.Option.{slice_get_past}
 use Rattle.stores.specs.declared.joined.Part.TheVariants.{First, Second}
 use Rattle.stores.specs.Parts.{Stands}
 use Rattle.stores.specs.Stores.{counted, values_after}
-use Rattle.stores.proofs.Acts.{nth_take, nth_left, nth_right, after_take, after_left, after_right}
+use Rattle.stores.proofs.Acts.{nth_take, nth_left, nth_right, after_take, after_drop, after_left, after_right}
 
 module _ {V : Type 0} (xs ys : List V) (i front : ℕ) (seam : front ≡ length xs) where
   pub in_first : Stands i front (Some First) → slice_get (counted (xs ++ ys)) i ≡ slice_get xs i
@@ -32,3 +32,16 @@ module _ {V : Type 0} (xs ys : List V) (i front : ℕ) (seam : front ≡ length 
         ap (λ k. counted (xs ++ after ys k)) there
         ∙ ap counted (sym (after_right act code operand register xs ys i (omega arith)))
         ∙ after_take act code operand register 4096 (xs ++ ys) i at.0
+
+    -- what comes after the first 4,096 values stays
+    pub past_first : Stands i front (Some First) → drop 4096 (after xs i ++ ys) ≡ drop 4096 (xs ++ ys)
+    past_first at =
+        ap (drop 4096) (sym (after_left act code operand register xs ys i (omega arith)))
+        ∙ after_drop act code operand register 4096 (xs ++ ys) i at.0
+
+    pub past_second : (j : ℕ) → Stands i front (Some (Second j)) → drop 4096 (xs ++ after ys j) ≡ drop 4096 (xs ++ ys)
+    past_second j at =
+        let there : j ≡ i - length xs = omega arith in
+        ap (λ k. drop 4096 (xs ++ after ys k)) there
+        ∙ ap (drop 4096) (sym (after_right act code operand register xs ys i (omega arith)))
+        ∙ after_drop act code operand register 4096 (xs ++ ys) i at.0

@@ -1,4 +1,5 @@
-ghost use Rattle.std.specs.Prelude.{◌≡◌, ◌++◌};
+ghost use Rattle.std.specs.Prelude.{◌≡◌, ◌++◌, drop, refl};
+ghost use Rattle.std.proofs.Common.{◌∙◌};
 ghost use Rattle.stores.specs.Stores.{counted, counted_few};
 ghost use Rattle.stores.specs.Parts.{Stands};
 
@@ -59,11 +60,12 @@ impl<K: Kind, First: ShowingStore<K>, Second: ShowingStore<K>> ShowingStore<K>
 
 impl<K: Kind, First: WorkingStore<K>, Second: WorkingStore<K>> WorkingStore<K>
     for JoinedStore<First, Second> {
-    ghost stays = { λ s t. First.WorkingStore.stays s.first t.first × Second.WorkingStore.stays s.second t.second };
+    // What lies outside either part stays, and so do the values past the first 4,096 of the joined list.
+    ghost stays = { λ s t. First.WorkingStore.stays s.first t.first × Second.WorkingStore.stays s.second t.second × (drop 4096 (First.ShowingStore.values t.first ++ Second.ShowingStore.values t.second) ≡ drop 4096 (First.ShowingStore.values s.first ++ Second.ShowingStore.values s.second)) };
 
-    ghost still = { λ s. (First.WorkingStore.still s.first, Second.WorkingStore.still s.second) };
+    ghost still = { λ s. (First.WorkingStore.still s.first, Second.WorkingStore.still s.second, refl) };
 
-    ghost chain = { λ s t u p q. (First.WorkingStore.chain s.first t.first u.first p.0 q.0, Second.WorkingStore.chain s.second t.second u.second p.1 q.1) };
+    ghost chain = { λ s t u p q. (First.WorkingStore.chain s.first t.first u.first p.0 q.0, Second.WorkingStore.chain s.second t.second u.second p.1 q.1, q.2 ∙ p.2) };
 
     fn work(&mut self, i: usize, code: u8, operand: i32, register: i32) -> Option<i32> {
         match part_of(i, self.first.len())? {

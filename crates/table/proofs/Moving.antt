@@ -22,13 +22,13 @@ use Rattle.stores.specs.declared.store.ShowingStore as showing
 use Rattle.table.specs.declared.answer.Refusal.TheVariants.{NoJob}
 use Rattle.table.specs.declared.definition.Table.{Table}
 use Rattle.table.specs.Answers.{step_answer}
-use Rattle.table.specs.Numbers.{number, refusal_of}
+use Rattle.table.specs.Numbers.{enter_number}
 use Rattle.table.specs.View.{Awaited, graph, table_over, view}
 
 err_ok : {T E : Type 0} {r : Result T E} {x : T} {e : E} → r ≡ Err e → r ≡ Ok x → ⊥
 err_ok z y = cc
 
-pub same_err : {T E : Type 0} {r : Result T E} {d e : E} → r ≡ Err d → r ≡ Err e → d ≡ e
+same_err : {T E : Type 0} {r : Result T E} {d e : E} → r ≡ Err d → r ≡ Err e → d ≡ e
 same_err z y = cc
 
 -- what holds of a record that stands there holds of the job there
@@ -62,14 +62,14 @@ module _ {K' S V : Type 0} (k : kinds.Ghosts K' V) (s : showing.Ghosts S K' V) (
     entered r (place_taken R i h e q z) y = absurd (err_ok z y)
 
     refused_as
-        : (d e : EnterError) → d ≡ e → qs ≡ t.shift.places → Moves (graph t) (kind.view k) (view s t) (begin p ty a) (refused (number (refusal_of d))) (view s t)
-        → Leaves (begin p ty a) (refused (number (refusal_of e))) (s.values t.store)
+        : (d e : EnterError) → d ≡ e → qs ≡ t.shift.places → Moves (graph t) (kind.view k) (view s t) (begin p ty a) (refused (enter_number d)) (view s t)
+        → Leaves (begin p ty a) (refused (enter_number e)) (s.values t.store)
     refused_as d e x q m =
-        subst (λ (c : EnterError). Leaves (begin p ty a) (refused (number (refusal_of c))) (s.values t.store)) x (rw q m)
+        subst (λ (c : EnterError). Leaves (begin p ty a) (refused (enter_number c)) (s.values t.store)) x (rw q m)
 
     pub not_entered
         : (r : Result (Unit {0}) EnterError) (e : EnterError) → Entered t.shift.places p qs (graph t) ty a r → r ≡ Err e
-        → Leaves (begin p ty a) (refused (number (refusal_of e))) (s.values t.store)
+        → Leaves (begin p ty a) (refused (enter_number e)) (s.values t.store)
     not_entered r e (enters R i h x v q z) y = absurd (err_ok y z)
     not_entered r e (no_such_place h q z) y = refused_as NoSuchPlace e (same_err z y) q (begin_no_place p ty a f (λ i. absurd (omega arith)))
     not_entered r e (no_such_type i h q z) y = refused_as NoSuchType e (same_err z y) q (begin_no_type p ty a f i (λ n. absurd (omega arith)))

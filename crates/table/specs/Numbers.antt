@@ -14,8 +14,8 @@ number NoJob = 13
 number NotAwaited = 14
 number NotFinished = 15
 
--- a begin is refused for the reason why its job is not entered
-abbrev pub refusal_of : EnterError → Refusal
-refusal_of enter.NoSuchPlace = NoSuchPlace
-refusal_of enter.NoSuchType = NoSuchType
-refusal_of enter.PlaceTaken = PlaceTaken
+-- and by which a begin is told why its job is not entered
+abbrev pub enter_number : EnterError → ℕ
+enter_number enter.NoSuchPlace = 10
+enter_number enter.NoSuchType = 11
+enter_number enter.PlaceTaken = 12

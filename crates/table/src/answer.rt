@@ -1,6 +1,6 @@
 // Calls on the table, and what they answer.
 ghost use Rattle.std.specs.Prelude.{◌≡◌};
-ghost use Rattle.table.specs.Numbers.{number, refusal_of};
+ghost use Rattle.table.specs.Numbers.{enter_number, number};
 
 use jobs::record::{EnterError, StepAnswer};
 
@@ -37,7 +37,7 @@ impl Refusal {
 }
 
 impl From<EnterError> for Refusal {
-    ghost from_gives = { λ e r. r ≡ refusal_of e };
+    ghost from_gives = { λ e r. number r ≡ enter_number e };
 
     fn from(why: EnterError) -> Refusal {
         match why {

@@ -22,6 +22,7 @@ impl<K: Kind, S: WorkingStore<K>> Table<K, S> {
     }
 
     // Puts a job of a type at an empty place, in its state 0 with the argument as its register, and gives a ticket of the place.
+    #[tactic(auto, using(model::specs::Table::begin_unfit))]
     pub fn begin(&mut self, place: u8, job_type: u8, argument: i32) -> Result<Ticket, Refusal>
         ensures moves { Moved K.Kind S.ShowingStore self.old (begin place job_type argument) (begin_answer result) self.new }
         ensures ticket { IfOk result (λ t. t.place ≡ place) }
@@ -35,6 +36,7 @@ impl<K: Kind, S: WorkingStore<K>> Table<K, S> {
     }
 
     // The unfinished job at a place makes one step.
+    #[tactic(auto, using(model::specs::Table::step_no_place))]
     pub fn step(&mut self, place: u8) -> Result<StepAnswer, Refusal>
         ensures moves { Moved K.Kind S.ShowingStore self.old (steps_at place) (step_answer result) self.new }
         ensures kept { Keeps S.WorkingStore.own self.old self.new }
@@ -55,6 +57,7 @@ impl<K: Kind, S: WorkingStore<K>> Table<K, S> {
     }
 
     // Answers a finished job's register and empties its place. A refusal hands the ticket back.
+    #[tactic(auto, using(model::specs::Table::collect_none))]
     pub fn collect(&mut self, ticket: Ticket) -> Result<i32, (Refusal, Ticket)>
         ensures moves { Moved K.Kind S.ShowingStore self.old (collects_at ticket.place) (collect_answer result) self.new }
         ensures back { IfErr result (λ e. e.1 ≡ ticket) }
@@ -73,13 +76,16 @@ impl<K: Kind, S: WorkingStore<K>> Table<K, S> {
     }
 
     // Takes the ticket. A finished job's place empties; an unfinished job goes on, and its place empties with its last step.
+    #[tactic(auto, using(model::specs::Table::leave_none))]
     pub fn leave(&mut self, ticket: Ticket) -> Result<(), Refusal>
         ensures moves { Moved K.Kind S.ShowingStore self.old (leaves_at ticket.place) (leave_answer result) self.new }
         ensures kept { Keeps S.WorkingStore.own self.old self.new }
     {
         let place = ticket.place();
         ticket.spend();
-        let job = self.awaited(place).ok_or(Refusal::NotAwaited)?;
+        let Some(job) = self.awaited(place) else {
+            return Err(Refusal::NotAwaited);
+        };
         if job.finished {
             self.shift.clear(place);
         } else {

@@ -71,6 +71,24 @@ impl<K: Kind, S: WorkingStore<K>> Table<K, S> {
     }
 }
 
+// Makes each call in order on a new table. Without memory for the answers the table stays new.
+fn perform_on_new<K: Kind, S: WorkingStore<K>>(
+    table: Table<K, S>,
+    heap: Global,
+    calls: &[Call],
+) -> (Table<K, S>, Result<Vec<Answer>, AllocError>)
+    requires { New (S.ShowingStore.values table.store) (view S.ShowingStore table) }
+    ensures each { IfOk result.1 (λ v. length v.items ≡ length calls.now) }
+    ensures reached { MatchResult result.1 (λ v. ReachedBy K.Kind S.ShowingStore table.store table.shift.workload calls.now v.items result.0) (λ _. New (S.ShowingStore.values table.store) (view S.ShowingStore result.0)) }
+    ensures promise { IfOk result.1 (λ v. PromisedBy K.Kind S.ShowingStore table.store table.shift.workload calls.now v.items result.0) }
+    ensures workload { result.0.shift.workload ≡ table.shift.workload }
+    ensures outside { S.WorkingStore.stays table.store result.0.store }
+{
+    let mut table = table;
+    let answers = table.perform(heap, calls);
+    (table, answers)
+}
+
 // Makes a new table of the store and the workload, and each call in order: the answers and the table are reached by these calls,
 // and the promise stands. Without memory for the answers the table is new.
 pub fn run<K: Kind, S: WorkingStore<K>>(
@@ -82,9 +100,8 @@ pub fn run<K: Kind, S: WorkingStore<K>>(
     ensures each { IfOk result.1 (λ v. length v.items ≡ length calls.now) }
     ensures reached { MatchResult result.1 (λ v. ReachedBy K.Kind S.ShowingStore store workload calls.now v.items result.0) (λ _. New (S.ShowingStore.values store) (view S.ShowingStore result.0)) }
     ensures promise { IfOk result.1 (λ v. PromisedBy K.Kind S.ShowingStore store workload calls.now v.items result.0) }
+    ensures workload { result.0.shift.workload ≡ workload }
     ensures outside { S.WorkingStore.stays store result.0.store }
 {
-    let mut table = Table::new(store, workload);
-    let answers = table.perform(heap, calls);
-    (table, answers)
+    perform_on_new(Table::new(store, workload), heap, calls)
 }

@@ -1,4 +1,4 @@
--- No bytes have two answers.
+-- The parts of a file have one answer each.
 use Rattle.std.proofs.Common.{◌≡◌, ℕ, zero, suc, ◌+◌, ◌-◌, ◌*◌, ◌≤◌, List, [], ◌∷◌, length, take, drop, cond, ltb, Ok, Err, sym, ap, ◌∙◌, subst, inl, inr, arith}
 use Rattle.std.proofs.lemmas.Bool.{cases_lt, lt-ltb, le-ltb}
 use Rattle.workload.specs.declared.fault.Fault.{Fault}
@@ -7,8 +7,12 @@ use Rattle.rules.specs.declared.state.State.{State}
 use Rattle.workload.specs.Encoding.{mark, version}
 use Rattle.rules.specs.Rules.{Lowest, Placed, Rooted}
 use Rattle.workload.specs.Reads as reads
-use Rattle.workload.specs.Reads.{Answer, Part, Done, Then, stops, goes, Several, Only, Sign, Range, Parents, StateRecord, Ways, TypePart, Note, note_length, Header, File, Contents, right, other, inside, outside, broken, tree, stray, joined, long, short, trailing, whole, wrong, sound}
+use Rattle.workload.specs.Reads.{Answer, Part, Done, Then, stops, goes, Several, Sign, Range, Parents, StateRecord, Ways, TypePart, Note, note_length, Header, File, Contents, right, other, inside, outside, broken, tree, stray, joined, long, short, trailing, whole, wrong, sound}
 use Rattle.workload.proofs.Parts.{same_ok, same_err, ok_err}
+
+-- no bytes have two answers
+abbrev pub Only : {X : Type 0} → Part X → Type 0
+Only {X} P = (bs : List ℕ) (a b : Answer X) → P bs a → P bs b → a ≡ b
 
 done_only : {X : Type 0} (x : X) → Only (Done x)
 done_only x bs a b p q = p ∙ sym q

@@ -1,5 +1,6 @@
 -- What reading a workload file promises.
 use Rattle.std.specs.Prelude.{◌≡◌, ℕ, ◌+◌, ◌≤◌, ◌⊎◌, List, length, drop, vec_items}
+use Rattle.rules.specs.declared.state.State.{State}
 use Rattle.workload.specs.declared.fault.Fault.{Fault}
 use Rattle.workload.specs.declared.fault.Fault.TheVariants.{Memory}
 use Rattle.workload.specs.declared.file.FileParts.{FileParts}
@@ -17,9 +18,9 @@ file_of w note = encoded (vec_items w.parents) w.code_count (all_states (vec_ite
 abbrev pub Spans : List ℕ → NoteSpan → List ℕ → Type 0
 Spans bs s note = (s.place + s.length ≡ length bs) × (drop s.place bs ≡ note)
 
--- what the parts of a file hold
-abbrev pub contents_of : FileParts → Contents
-contents_of p = record { parents = p.parents.now; codes = p.code_count; types = p.types; note = p.note.now }
+-- what the parts of a file hold, with its job types
+abbrev pub contents_of : FileParts → List (List State) → Contents
+contents_of p types = record { parents = p.parents.now; codes = p.code_count; types = types; note = p.note.now }
 
 -- the file is the workload's with a note, and the span is the note's
 abbrev pub Filled : List ℕ → Workload → NoteSpan → Type 0

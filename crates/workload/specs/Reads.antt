@@ -18,10 +18,6 @@ Answer X = Result (X × List ℕ) Fault
 abbrev pub Part : Type 0 → Type 1
 Part X = List ℕ → Answer X → Type 0
 
--- no bytes have two answers
-abbrev pub Only : {X : Type 0} → Part X → Type 0
-Only {X} P = (bs : List ℕ) (a b : Answer X) → P bs a → P bs b → a ≡ b
-
 -- nothing more is read, and x is what was
 abbrev pub Done : {X : Type 0} → X → Part X
 Done x bs a = a ≡ Ok (x, bs)
@@ -135,7 +131,7 @@ Refused bs f = File (length bs) bs (Err f)
 
 -- What holds of every file.
 pub record FileLaws : Type 0 where
-  -- it holds one workload and one note, or has one first fault, and not both
+  -- it does not hold two workloads or notes, have two first faults, or both
   pub one_contents : (bs : List ℕ) (x y : Contents) → Accepted bs x → Accepted bs y → x ≡ y
   pub one_fault : (bs : List ℕ) (f g : Fault) → Refused bs f → Refused bs g → f ≡ g
   pub not_both : (bs : List ℕ) (x : Contents) (f : Fault) → Accepted bs x → Refused bs f → ⊥

@@ -1,5 +1,5 @@
 // Reading a workload file, and handing out its note.
-ghost use Rattle.std.specs.Prelude.{◌≡◌, ◌+◌, ◌<◌, ◌≤◌, length, take, drop, MatchOption, MatchResult};
+ghost use Rattle.std.specs.Prelude.{◌≡◌, ◌+◌, ◌<◌, ◌≤◌, [], length, take, drop, MatchOption, MatchResult};
 ghost use Rattle.workload.specs.Files.{Filled, NotRead, contents_of};
 ghost use Rattle.workload.specs.Reads.{Accepted, FileLaws, Refused};
 ghost use Rattle.workload.specs.Small.{SmallFiles};
@@ -17,16 +17,15 @@ pub struct NoteSpan {
     pub length: usize,
 }
 
-// The parts of a file that has no fault.
+// The parts of a file that has no fault, but for its job types.
 #[derive(Drop)]
 struct FileParts<'a> {
     parents: &'a [u8],
     code_count: u8,
-    types: TypeRow,
     note: &'a [u8],
 }
 
-// A file holds one workload and one note, or has one first fault, and not both; cut short or going on, it is refused.
+// No file holds two workloads or notes, has two first faults, or both; an accepted one that is cut short or goes on is refused.
 pub fn file_laws_stand()
     ensures { FileLaws }
 {}
@@ -36,19 +35,19 @@ pub fn small_files_stand()
     ensures { SmallFiles }
 {}
 
-// Tests a whole file, with no need of memory, and takes it apart.
-fn survey(file: &[u8]) -> Result<FileParts<'_>, Fault>
-    ensures { MatchResult result (λ p. Accepted file.now (contents_of p)) (λ f. Refused file.now f) }
+// Tests a whole file, with no need of memory, and takes it apart; its job types go into an empty row.
+fn survey<'a>(file: &'a [u8], types: &mut TypeRow) -> Result<FileParts<'a>, Fault>
+    requires { types.old ≡ [] }
+    ensures { MatchResult result (λ p. Accepted file.now (contents_of p types.new)) (λ f. Refused file.now f) }
 {
     let mut rest = Rest::of(file);
     let sizes = rest.header()?;
     let parents = rest.parents(sizes.items)?;
-    let types = rest.job_types(sizes)?;
+    rest.job_types(sizes, types)?;
     let note = rest.note()?;
     Ok(FileParts {
         parents,
         code_count: sizes.codes,
-        types,
         note,
     })
 }
@@ -58,13 +57,9 @@ fn survey(file: &[u8]) -> Result<FileParts<'_>, Fault>
 fn load(heap: Global, file: &[u8]) -> Result<(Workload, NoteSpan), Fault>
     ensures { MatchResult result (λ p. Filled file.now p.0 p.1) (λ f. NotRead file.now f) }
 {
-    let parts = survey(file)?;
-    let workload = Workload::of_parts(
-        heap,
-        parts.parents,
-        parts.code_count,
-        parts.types.as_slice(),
-    )?;
+    let mut types = TypeRow::empty();
+    let parts = survey(file, &mut types)?;
+    let workload = Workload::of_parts(heap, parts.parents, parts.code_count, types.as_slice())?;
     let length = parts.note.len();
     let span = NoteSpan {
         place: file.len() - length,

@@ -8,6 +8,7 @@ ghost use Rattle.workload.specs.Types.{all_plans, all_states};
 use crate::definition::JobType;
 use crate::row::StateRow;
 use rules::plan::plan_of;
+use rules::tree::LockTree;
 use std::alloc::{AllocError, Global};
 
 // Takes job types into memory, each with its plan.
@@ -20,10 +21,11 @@ pub(crate) fn planned_types(
     ensures states { IfOk result (λ v. all_states v.items ≡ rows.now) }
     ensures plans { IfOk result (λ v. (codes : ℕ) → Lawful parents.now codes rows.now → Kept (workload_of parents.now codes rows.now) (all_plans v.items)) }
 {
+    let tree = LockTree::of(parents).unwrap();
     let mut types = Vec::with_capacity(heap, rows.len())?;
     for row in rows {
-        let plan = plan_of(parents, row.as_slice()).unwrap();
         let states = Vec::from_slice(heap, row.as_slice())?;
+        let plan = plan_of(&tree, row.as_slice()).unwrap();
         types.push(JobType { states, plan })?;
     }
     Ok(types)

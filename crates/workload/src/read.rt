@@ -25,15 +25,12 @@ struct Limits {
 }
 
 impl Limits {
-    // Whether the arc byte at j names a state, or is not used and 0.
+    // Whether the arc byte at j names a state, or is not used and 0: one comparison, since each record has four.
     fn right_arc(self, count: u8, j: usize, arc: u8) -> bool
         ensures { Decides result (RightArc self.states count j arc) }
     {
-        if j < count as usize {
-            arc < self.states
-        } else {
-            arc == 0
-        }
+        let limit = if j < count as usize { self.states } else { 1 };
+        arc < limit
     }
 
     // The first wrong byte of a record, counted from 0.
@@ -199,17 +196,17 @@ impl<'a> Rest<'a> {
         Ok(states)
     }
 
-    // Reads the job types.
+    // Reads the job types into an empty row. The caller gives it, since a row is too large to be handed on.
     // One function with `records` would take the reader of one part as a closure, for a loop of one line.
-    pub(crate) fn job_types(&mut self, sizes: Sizes) -> Result<TypeRow, Fault>
-        requires { sizes.types ≤ 8 }
-        ensures { Gives (λ end. Several (TypePart sizes.items sizes.codes end) sizes.types) (λ xs. xs) self.old self.new result }
+    pub(crate) fn job_types(&mut self, sizes: Sizes, types: &mut TypeRow) -> Result<(), Fault>
+        requires few { sizes.types ≤ 8 }
+        requires empty { types.old ≡ [] }
+        ensures { Gives (λ end. Several (TypePart sizes.items sizes.codes end) sizes.types) (λ _. types.new) self.old self.new result }
     {
-        let mut types = TypeRow::empty();
         for _t in 0..sizes.types {
             types.push(self.job_type(sizes)?);
         }
-        Ok(types)
+        Ok(())
     }
 
     // Reads the note, which ends the file.

@@ -1,6 +1,6 @@
 // The calls that the input asks for.
-ghost use Rattle.std.specs.Prelude.{IfOk, OnOk};
-ghost use Rattle.yard_text.specs.Input.{Asks, Begins};
+ghost use Rattle.std.specs.Prelude.{◌++◌, IfOk, OnOk};
+ghost use Rattle.yard_text.specs.Input.{Asks, Begins, collects};
 ghost use Rattle.yard_text.specs.Reading.{AddsSteps, NamesArgument, NamesDigit, NamesLine, NamesNumber, CutsOnce};
 
 use std::alloc::{AllocError, Global};
@@ -98,14 +98,22 @@ fn push_steps(calls: &mut Vec<Call>, bytes: &[u8]) -> Result<(), AllocError>
     Ok(())
 }
 
-// The calls that the input asks for: begins at the places 0 to 2, steps, and a collect at each of these places.
-pub fn asked(heap: Global, bytes: &[u8]) -> Result<Vec<Call>, AllocError>
-    ensures { IfOk result (λ v. Asks bytes.now v.items) }
+// The begins and the steps that the input asks for: with the three collects, its calls.
+fn turns(heap: Global, bytes: &[u8]) -> Result<Vec<Call>, AllocError>
+    ensures { IfOk result (λ v. Asks bytes.now (v.items ++ collects)) }
 {
     let (mut calls, rest) = begins(heap, bytes)?;
     if calls.len() == 3 {
         push_steps(&mut calls, rest)?;
     }
+    Ok(calls)
+}
+
+// The calls that the input asks for: begins at the places 0 to 2, steps, and a collect at each of these places.
+pub fn asked(heap: Global, bytes: &[u8]) -> Result<Vec<Call>, AllocError>
+    ensures { IfOk result (λ v. Asks bytes.now v.items) }
+{
+    let mut calls = turns(heap, bytes)?;
     calls.extend_from_slice(&[Call::Collect(0), Call::Collect(1), Call::Collect(2)])?;
     Ok(calls)
 }

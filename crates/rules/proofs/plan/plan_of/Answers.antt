@@ -1,78 +1,87 @@
-use Rattle.std.proofs.Common.{◌≡◌, ℕ, ◌<◌, ◌≤◌, min, true, List, length, sym, ap, ◌∙◌, subst, arith}
-use Rattle.std.proofs.lemmas.Bool.{lt-ltb}
-use Rattle.itemset.specs.Members.{holds}
+use Rattle.std.proofs.Common.{◌≡◌, ℕ, ◌<◌, ◌≤◌, List, length, get_or, sym, refl, subst, arith}
 use Rattle.rules.specs.declared.state.State.{State}
-use Rattle.rules.specs.Reach.{Joined}
-use Rattle.rules.specs.Sets.{item_at}
-use Rattle.rules.proofs.Gathering.{both}
-use Rattle.rules.proofs.Planning.{Going, Rooting, common_named, lacking_of, named_by, naming, none_for, planned_for, some_named}
+use Rattle.rules.specs.Reach.{Joined, Reaches}
+use Rattle.rules.specs.Rules.{Arc, Parent}
+use Rattle.rules.specs.Sets.{Exactly, item_at}
+use Rattle.rules.specs.View.{workload_of}
+use Rattle.rules.proofs.Settled.{settled}
+use Rattle.itemset.specs.Members.{nothing}
+use mathlib.Core.Logic.{∥∥₁_elim, ∥∥₁_map}
+use Rattle.rules.proofs.Gathering.{arc_below, arc_from, back_all, back_only, both, rows_all, rows_only}
+use Rattle.rules.proofs.Planning.{Going, Made, Rooting, common_named, lacking_of, named_along, naming, none_for, planned_for, some_named}
 use Rattle.rules.proofs.plan.plan_of.Goals as goal
 
 -- the states name items below 64
-small : (ps qs : List ℕ) (xs ys : List State) → qs ≡ ps → xs ≡ ys → length qs ≤ 64 → ((s : ℕ) → s < length ys → item_at ys s < length ps) → (s : ℕ) → s < length xs → item_at xs s < 64
-small ps qs xs ys e f few h = subst (λ (zs : List State). (s : ℕ) → s < length zs → item_at zs s < 64) (sym f) (λ s l. let i = h s l in omega (arith, ap length e))
+small : (ps : List ℕ) (xs ys : List State) → xs ≡ ys → length ps ≤ 64 → ((s : ℕ) → s < length ys → item_at ys s < length ps) → (s : ℕ) → s < length xs → item_at xs s < 64
+small ps xs ys f few h = subst (λ (zs : List State). (s : ℕ) → s < length zs → item_at zs s < 64) (sym f) (λ s l. let i = h s l in omega arith)
+
+pub named_along-ahead-requires-clause-within : goal.named_along-ahead-requires-clause-within
+named_along-ahead-requires-clause-within c =
+    let graph = c.in_ok-graph.graph in
+    λ s m j. arc_from graph.states.now s m (rows_only (Arc graph.states.now) 32 c.arcs-arcs.result.rows c.arcs-arcs.result.long (arc_below graph.states.now graph.few) c.arcs-arcs.ensures s m j)
+
+pub named_along-behind-requires-clause-within : goal.named_along-behind-requires-clause-within
+named_along-behind-requires-clause-within c =
+    let graph = c.in_ok-graph.graph in
+    λ m s j. (back_only (Arc graph.states.now) 32 c.arcs-arcs.result.rows c.arcs-arcs.result.long (arc_below graph.states.now graph.few) c.arcs-arcs.ensures
+    c.converse-back.result.rows c.converse-back.result.long c.converse-back.ensures m s j).0
 
 pub returns-in_err-root : goal.returns-in_err-root
 returns-in_err-root c =
-    let parents = c.in_ok-tree.tree.parents.now in
+    let lock = c.args.lock.now in
+    let parents = lock.tree.parents.now in
     let states = c.in_ok-graph.graph.states.now in
-    let ps : parents ≡ c.args.parents.now = c.in_ok-tree.ensures in
     let ss : states ≡ c.args.states.now = c.in_ok-graph.ensures in
-    let few : length parents ≤ 64 = c.in_ok-tree.tree.few in
-    let items = small c.args.parents.now parents states c.args.states.now ps ss few (c.all_name_below.ensures.0 c.if-not-all_name_below.false) in
-    let all : (s : ℕ) → s < length states → holds c.below.result s ≡ true = λ s l. c.below.ensures s ∙ lt-ltb s (min 32 64) (let k = c.in_ok-graph.graph.few in omega arith) in
-    let N = naming states items c.below.result c.named_in-named.result all c.named_in-named.ensures in
-    let up = c.above-up.result.rows in
-    let R : Rooting parents states up c.common_above.result =
-    record { few = few; above = c.above-up.ensures; common = common_named states c.named_in-named.result N up c.common_above.result c.common_above.ensures } in
+    let few : length parents ≤ 64 = lock.tree.few in
+    let items = small parents states c.args.states.now ss few (c.all_name_below.ensures.0 c.if-not-all_name_below.false) in
+    let N = naming states items c.named-named.result c.named-named.ensures in
+    let up = lock.above.rows in
     rw c.from_residual-in_err-root.ensures
-    (λ l k. none_for c.args.parents.now parents c.args.states.now states up c.common_above.result ps ss R c.in_err-root.ensures)
+    (λ l k codes t types H. ∥∥₁_elim lock.above_are (λ (u v : ⊥). absurd u) (λ above.
+    let R : Rooting parents states up c.common_above.result =
+    record { few = few; above = above; common = common_named states c.named-named.result N up c.common_above.result c.common_above.ensures } in
+    none_for parents parents c.args.states.now states up c.common_above.result refl ss R c.in_err-root.ensures codes t types H))
 
 pub returns : goal.returns
 returns c =
-    let parents = c.in_ok-tree.tree.parents.now in
+    let lock = c.args.lock.now in
+    let parents = lock.tree.parents.now in
     let states = c.in_ok-graph.graph.states.now in
-    let ps : parents ≡ c.args.parents.now = c.in_ok-tree.ensures in
     let ss : states ≡ c.args.states.now = c.in_ok-graph.ensures in
-    let few : length parents ≤ 64 = c.in_ok-tree.tree.few in
-    let items = small c.args.parents.now parents states c.args.states.now ps ss few (c.all_name_below.ensures.0 c.if-not-all_name_below.false) in
-    let all : (s : ℕ) → s < length states → holds c.below.result s ≡ true = λ s l. c.below.ensures s ∙ lt-ltb s (min 32 64) (let k = c.in_ok-graph.graph.few in omega arith) in
-    let named = c.named_in-named.result in
-    let N = naming states items c.below.result named all c.named_in-named.ensures in
-    let up = c.above-up.result.rows in
+    let few : length parents ≤ 64 = lock.tree.few in
+    let items = small parents states c.args.states.now ss few (c.all_name_below.ensures.0 c.if-not-all_name_below.false) in
+    let named = c.named-named.result in
+    let N = naming states items named c.named-named.ensures in
+    let up = lock.above.rows in
     let root = c.in_ok-root.root in
-    let reached = c.reached-reached.result.rows in
-    let back = c.converse.result.rows in
-    let R : Rooting parents states up c.common_above.result =
-    record { few = few; above = c.above-up.ensures; common = common_named states named N up c.common_above.result c.common_above.ensures } in
-    let G : Going states c.arcs-arcs.result.rows reached back c.each_named-ahead.result.rows c.each_named-behind.result.rows = record {
+    let arcs = c.arcs-arcs.result in
+    let back = c.converse-back.result in
+    let below = arc_below states c.in_ok-graph.graph.few in
+    let G : Going states c.converse-back.result.rows c.named_along-ahead.result.rows c.named_along-behind.result.rows = record {
       short = c.in_ok-graph.graph.few;
-      arcs_long = c.arcs-arcs.result.long;
-      arcs_are = c.arcs-arcs.ensures;
-      reached_are = c.reached-reached.ensures;
-      back_are = c.converse.ensures;
-      ahead_are = λ s l. named_by states items _ _ (c.each_named-ahead.ensures s l);
-      behind_are = λ s l. named_by states items _ _ (c.each_named-behind.ensures s l);
+      back_are = λ m l s. (
+        λ h. back_only (Arc states) 32 arcs.rows arcs.long below c.arcs-arcs.ensures back.rows back.long c.converse-back.ensures m s h,
+        λ a. back_all (Arc states) 32 arcs.rows arcs.long below c.arcs-arcs.ensures back.rows c.converse-back.ensures m s a,
+      );
+      ahead_are = λ s l. named_along states items (rows_only (Arc states) 32 arcs.rows arcs.long below c.arcs-arcs.ensures) (rows_all (Arc states) 32 arcs.rows arcs.long below c.arcs-arcs.ensures) s _ (c.named_along-ahead.ensures s l);
+      behind_are = λ s l. named_along states items (back_only (Arc states) 32 arcs.rows arcs.long below c.arcs-arcs.ensures back.rows back.long c.converse-back.ensures)
+          (back_all (Arc states) 32 arcs.rows arcs.long below c.arcs-arcs.ensures back.rows c.converse-back.ensures) s _ (c.named_along-behind.ensures s l);
     } in
-    planned_for c.args.parents.now parents c.args.states.now states _ ps ss
-    (record {
+    let made : ((i : ℕ) → i < 64 → Exactly (get_or up i nothing) (Reaches (Parent parents) i)) → Made parents states _ = λ above. record {
       up = up;
       shared = c.common_above.result;
-      rooting = R;
+      rooting = record { few = few; above = above; common = common_named states named N up c.common_above.result c.common_above.ensures };
       deepest = c.in_ok-root.ensures;
-      under = c.column-under.result;
-      under_is = c.column-under.ensures;
-      local_is = both (λ d. Joined up d root) (λ d. (s : ℕ) × (s < length states) × Joined up (item_at states s) d) c.column-under.result c.some_above.result c.intersection-local.result c.column-under.ensures (some_named states named N up c.some_above.result c.some_above.ensures) c.intersection-local.ensures;
+      local_is = both (λ d. Joined up d root) (λ d. (s : ℕ) × (s < length states) × Joined up (item_at states s) d) c.column-under.result c.held_by.result c.intersection-local.result c.column-under.ensures (some_named states named N up c.held_by.result c.held_by.ensures) c.intersection-local.ensures;
       children_are = c.children_in-children.ensures;
       leaves_are = c.childless_in-leaves.ensures;
-      way_down_is = c.within.ensures;
       named_is = N.are;
-      arcs = c.arcs-arcs.result.rows;
-      reached = reached;
-      back = back;
-      ahead = c.each_named-ahead.result.rows;
-      behind = c.each_named-behind.result.rows;
+      back = c.converse-back.result.rows;
+      ahead = c.named_along-ahead.result.rows;
+      behind = c.named_along-behind.result.rows;
       going = G;
       unreachable_are = λ s l. lacking_of _ _ c.items.ensures (c.lacking-unreachable.ensures s l);
       unlockable_are = c.each_left_behind.ensures;
-    })
+    } in
+    λ codes t types H. settled (workload_of parents codes types) H.formed t H.is_type _
+    (∥∥₁_map lock.above_are (λ above. planned_for parents parents c.args.states.now states _ refl ss (made above) codes t types H))

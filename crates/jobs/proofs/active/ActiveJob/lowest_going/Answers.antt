@@ -3,14 +3,14 @@ use Rattle.std.proofs.lemmas.Bool.{and_from, and_parts, and_right, both_ways, ca
 use Rattle.workload.specs.View.{view}
 use Rattle.itemset.specs.Members.{holds, nothing}
 use Rattle.jobs.proofs.Actives.{held_low}
-use Rattle.jobs.proofs.Counting.{fewer}
+use Rattle.itemset.proofs.Counting.{fewer}
 use Rattle.jobs.proofs.Deciding.{IdleAndPassed, decides_going}
 use Rattle.jobs.proofs.active.ActiveJob.lowest_going.Goals as goal
 
 pub loop-d-init : goal.loop-d-init
 loop-d-init c =
     let a = c.args.self.now in (
-      decides_going (view a.workload.now) a.job c.plan-plan.result.now c.plan-plan.ensures (held_low a) c.difference-needed.result c.difference-idle.result c.intersection.result c.union-passed.result
+      decides_going (view a.workload.now) a.job.now c.plan-plan.result.now c.plan-plan.ensures (held_low a) c.difference-needed.result c.difference-idle.result c.intersection.result c.union-passed.result
           c.difference-needed.ensures c.difference-idle.ensures c.intersection.ensures c.union-passed.ensures,
       λ x h. h,
       λ x h. h.0,

@@ -6,7 +6,7 @@ use Rattle.jobs.proofs.active.ActiveJob.next_state.Goals as goal
 
 pub returns : goal.returns
 returns c =
-    let j = c.args.self.now.job in
+    let j = c.args.self.now.job.now in
     let x = c.state-state.result in
     let e = c.state-state.ensures in
     let f : SFits w32 j.register = search rules in

@@ -1,17 +1,21 @@
-use Rattle.std.proofs.Common.{◌≡◌, ℕ, true, false, ℤ, sym, ap, ◌∙◌, subst, w32, SFits, rules}
+use Rattle.std.proofs.Common.{◌≡◌, ℕ, true, false, ℤ, sym, ◌∙◌, subst, w32, SFits, rules}
 use Rattle.std.proofs.lemmas.Int.{to_z-of_z}
 use Rattle.itemset.specs.Members.{holds}
 use Rattle.kinds.specs.View.{view as kind_view}
 use Rattle.model.specs.Workload.{Unlockable}
-use Rattle.model.specs.Table.{Steps, WorksIfThere, with_register, closes, finishes, goes, locks, releases, waits, worked, works}
+use Rattle.model.specs.Table.{Steps, WorksIfThere, closes, finishes, goes, locks, releases, waits, worked, works}
 use Rattle.workload.specs.View.{view}
+use Rattle.jobs.specs.declared.change.Change.TheVariants.{Worked}
+use Rattle.jobs.specs.Changes.{changed}
 use Rattle.jobs.specs.View.{Holding, job_view}
 use Rattle.jobs.proofs.Actives.{next_low}
 use Rattle.jobs.proofs.Stepped.{lowest_of, with_all_of}
 use Rattle.jobs.proofs.active.ActiveJob.step.Goals as goal
 
 pub returns-in-Some-clause-steps : goal.returns-in-Some-clause-steps
-returns-in-Some-clause-steps g c = rw c.released.ensures.job (releases c.in-Some.d (holds c.released.result.held) c.in-Some.ensures c.released.ensures.held)
+returns-in-Some-clause-steps g c =
+    let after = changed c.args.self.now.job.now c.release.result in
+    rw c.release.ensures.job (releases c.in-Some.d (holds after.held) c.in-Some.ensures c.release.ensures.held)
 
 pub unlockable-requires : goal.unlockable-requires
 unlockable-requires g c = next_low c.args.self.now c.in-Some-next_state.s c.in-Some-next_state.ensures
@@ -20,46 +24,49 @@ pub returns-in-Some-next_state-clause-steps : goal.returns-in-Some-next_state-cl
 returns-in-Some-next_state-clause-steps g c =
     let a = c.args.self.now in
     let s = c.in-Some-next_state.s in
-    rw c.arrived.ensures.job (goes s (holds c.arrived.result.done) c.in_default.ensures c.if-job.true c.in-Some-next_state.ensures
-    (with_all_of (holds a.job.done) (holds c.unlockable.result) (holds c.arrived.result.done) (Unlockable (view a.workload.now) a.job.job_type s) c.unlockable.ensures c.arrived.ensures.done))
+    let after = changed a.job.now c.arrive.result in
+    rw c.arrive.ensures.job (goes s (holds after.done) c.in_default.ensures c.if-job.true c.in-Some-next_state.ensures
+    (with_all_of (holds a.job.now.done) (holds c.unlockable.result) (holds after.done) (Unlockable (view a.workload.now) a.job.now.job_type s) c.unlockable.ensures c.arrive.ensures.done))
 
 pub returns-in-Some-lowest-clause-steps : goal.returns-in-Some-lowest-clause-steps
 returns-in-Some-lowest-clause-steps g c =
     let d = c.in-Some-lowest.d in
     let e = c.in-Some-lowest.ensures in
-    let r = c.released-in-Some-lowest in
-    rw r.ensures.job (closes d (holds r.result.held) c.in_default.ensures c.if-job.true c.in-None.ensures (lowest_of (holds c.args.self.now.job.held) d e.0 e.1) r.ensures.held)
+    let r = c.release-in-Some-lowest in
+    let after = changed c.args.self.now.job.now r.result in
+    rw r.ensures.job (closes d (holds after.held) c.in_default.ensures c.if-job.true c.in-None.ensures (lowest_of (holds c.args.self.now.job.now.held) d e.0 e.1) r.ensures.held)
 
 pub returns-in-None-lowest-clause-steps : goal.returns-in-None-lowest-clause-steps
-returns-in-None-lowest-clause-steps g c = rw c.at_end.ensures (finishes c.in_default.ensures c.if-job.true c.in-None.ensures c.in-None-lowest.ensures)
+returns-in-None-lowest-clause-steps g c = (finishes c.in_default.ensures c.if-job.true c.in-None.ensures c.in-None-lowest.ensures)
 
 pub returns-then-contains-clause-steps : goal.returns-then-contains-clause-steps
 returns-then-contains-clause-steps g c =
     let w = c.args.self.now.workload.now in
-    let R = c.args.self.now.job in
+    let R = c.args.self.now.job.now in
     let x = c.state-item.result in
     let e = c.state-item.ensures in
     let vs = g.S.ShowingStore.values c.args.store.now in
     let new = g.S.ShowingStore.values c.work_of_state-register.new.store in
     let q = c.work_of_state-register.result in
+    let fq : SFits w32 q = search rules in
     let fo : SFits w32 x.operand = search rules in
     let fr : SFits w32 R.register = search rules in
-    let fq : SFits w32 q = search rules in
     let done : WorksIfThere (view w) (kind_view g.K.Kind) R.job_type R.state vs R.register new q =
     subst (λ (p : ℤ). WorksIfThere (view w) (kind_view g.K.Kind) R.job_type R.state vs p new q) (to_z-of_z w32 _ fr)
     (c.work_of_state-register.ensures.works (view w) R.job_type R.state (sym e.item) (sym e.code) (sym (to_z-of_z w32 _ fo ∙ e.operand))) in
     let here : holds R.held ((view w).item R.job_type R.state) ≡ true = subst (λ (y : ℕ). holds R.held y ≡ true) e.item (sym c.if-contains.ensures) in
-    let same : job_view c.after_work.result ≡ with_register (job_view R) q = c.after_work.ensures ∙ ap (λ (p : ℤ). with_register (job_view R) p) (to_z-of_z w32 _ fq) in
-    subst (λ (i : ℕ). Steps (view w) (kind_view g.K.Kind) (Holding c.args.places.now) vs (job_view R) (worked i) new (job_view c.after_work.result)) (sym e.item)
-    (rw same (works new q c.in_default.ensures c.if-job.false here done))
+    let stepped = works new q c.in_default.ensures c.if-job.false here done in
+    subst (λ (p : ℤ). Steps (view w) (kind_view g.K.Kind) (Holding c.args.shift.now.places) vs (job_view R) (worked x.item) new (job_view (changed R (Worked p)))) (sym (to_z-of_z w32 _ fq))
+    (subst (λ (i : ℕ). Steps (view w) (kind_view g.K.Kind) (Holding c.args.shift.now.places) vs (job_view R) (worked i) new (job_view (changed R (Worked q)))) (sym e.item) stepped)
 
 pub returns-in-Some-holder-clause-steps : goal.returns-in-Some-holder-clause-steps
 returns-in-Some-holder-clause-steps g c =
-    let free = subst (λ (y : ℕ). holds c.args.self.now.job.held y ≡ false) c.state-item.ensures.item (sym c.if-contains.ensures) in
+    let free = subst (λ (y : ℕ). holds c.args.self.now.job.now.held y ≡ false) c.state-item.ensures.item (sym c.if-contains.ensures) in
     waits c.wanted-d.result c.in-Some-holder.q c.in_default.ensures c.if-job.false free c.wanted-d.ensures.wants c.in-Some-holder.ensures
 
 pub returns-in-None-holder-clause-steps : goal.returns-in-None-holder-clause-steps
 returns-in-None-holder-clause-steps g c =
-    let free = subst (λ (y : ℕ). holds c.args.self.now.job.held y ≡ false) c.state-item.ensures.item (sym c.if-contains.ensures) in
-    let e = c.locked_too.ensures in
-    rw e.job (locks c.wanted-d.result (holds c.locked_too.result.held) (holds c.locked_too.result.locked) c.in_default.ensures c.if-job.false free c.wanted-d.ensures.wants c.in-None-holder.ensures e.held e.locked)
+    let free = subst (λ (y : ℕ). holds c.args.self.now.job.now.held y ≡ false) c.state-item.ensures.item (sym c.if-contains.ensures) in
+    let e = c.lock.ensures in
+    let after = changed c.args.self.now.job.now c.lock.result in
+    rw e.job (locks c.wanted-d.result (holds after.held) (holds after.locked) c.in_default.ensures c.if-job.false free c.wanted-d.ensures.wants c.in-None-holder.ensures e.held e.locked)

@@ -4,6 +4,7 @@ use Rattle.workload.specs.View.{view}
 use Rattle.workload.proofs.Uses.{well_formed}
 use Rattle.jobs.specs.Turns.{enters, place_taken}
 use Rattle.jobs.specs.View.{Sound, job_view}
+use Rattle.jobs.proofs.Lockers.{locked_new}
 use Rattle.jobs.proofs.Keeping.{sound_new, sound_taken}
 use Rattle.jobs.proofs.shift.Shift.enter.Goals as goal
 
@@ -22,6 +23,9 @@ put-requires-clause-sound c =
     let R = c.new.result in
     let made = sound_new W (well_formed s.workload) c.args.job_type _ (omega (arith, c.type_count.ensures.value, c.if-job_type-type_count.false)) in
     sound_taken W (job_view R) (Some R) refl (subst (λ (J : Job). Sound W J) (sym c.new.ensures) made)
+
+pub put-requires-clause-locked : goal.put-requires-clause-locked
+put-requires-clause-locked c = locked_new c.args.self.now.lockers c.args.place c.args.job_type _ c.new.result c.new.ensures
 
 pub returns-then-is_some-clause-entered : goal.returns-then-is_some-clause-entered
 returns-then-is_some-clause-entered c =

@@ -1,8 +1,8 @@
-use Rattle.std.proofs.Common.{◌++◌, ap, sym, ◌∙◌, rules}
+use Rattle.std.proofs.Common.{◌++◌, ap, drop, sym, ◌∙◌, rules}
 use Rattle.std.proofs.lemmas.Int.{to_z-of_z}
 use Rattle.stores.specs.Stores.{counted}
 use Rattle.stores.proofs.Acts.{after_none}
-use Rattle.stores.proofs.Seam.{in_first, in_second, in_neither, after_first, after_second}
+use Rattle.stores.proofs.Seam.{in_first, in_second, in_neither, after_first, after_second, past_first, past_second}
 use Rattle.stores.proofs.joined.JoinedStoreWorkingStore.work.Goals as goal
 
 pub returns-in_err-part_of-clause-answer : goal.returns-in_err-part_of-clause-answer
@@ -46,3 +46,23 @@ returns-in-Second-clause-after g c =
     let at = rw c.in-Second.is at c.in_ok-part_of.ensures in
     ap (λ vs. counted (xs ++ vs)) (simp to_z-of_z at c.work-in-Second.ensures.after)
     ∙ after_second xs ys _ _ c.len.ensures g.K.Kind.acted _ _ _ _ at
+
+pub returns-in-First-clause-outside : goal.returns-in-First-clause-outside
+returns-in-First-clause-outside g c =
+    let ys = g.Second.ShowingStore.values c.args.self.now.second in
+    let operand = c.ranges.operand in
+    let register = c.ranges.register in
+    let at = rw c.in-First.is at c.in_ok-part_of.ensures in
+    let past = ap (λ vs. drop 4096 (vs ++ ys)) (simp to_z-of_z at c.work.ensures.after)
+    ∙ past_first _ ys _ _ c.len.ensures g.K.Kind.acted _ _ _ at in
+    (c.work.ensures.outside, g.met.Second.WorkingStore.still c.args.self.now.second, past)
+
+pub returns-in-Second-clause-outside : goal.returns-in-Second-clause-outside
+returns-in-Second-clause-outside g c =
+    let xs = g.First.ShowingStore.values c.args.self.now.first in
+    let operand = c.ranges.operand in
+    let register = c.ranges.register in
+    let at = rw c.in-Second.is at c.in_ok-part_of.ensures in
+    let past = ap (λ vs. drop 4096 (xs ++ vs)) (simp to_z-of_z at c.work-in-Second.ensures.after)
+    ∙ past_second xs _ _ _ c.len.ensures g.K.Kind.acted _ _ _ _ at in
+    (g.met.First.WorkingStore.still c.args.self.now.first, c.work-in-Second.ensures.outside, past)

@@ -1,14 +1,8 @@
 use Rattle.std.proofs.Common.{w32, SFits, rules}
 use Rattle.std.proofs.lemmas.Int.{to_z-of_z}
-use Rattle.std.proofs.lemmas.Bool.{both_ways}
 use Rattle.std.proofs.lemmas.Result.{err_from_is_err_and}
-use Rattle.model.specs.Table.{begin_unfit}
 use Rattle.table.proofs.Moving.{entered, not_entered}
 use Rattle.table.proofs.definition.Table.begin.Goals as goal
-
-pub returns-then-not-fitting-clause-moves : goal.returns-then-not-fitting-clause-moves
-returns-then-not-fitting-clause-moves g c =
-    begin_unfit c.args.place c.args.job_type c.args.argument (λ f. both_ways c.fitting.result c.if-not-fitting.true (c.fitting.ensures.1 f))
 
 pub returns-in_err-enter-clause-moves : goal.returns-in_err-enter-clause-moves
 returns-in_err-enter-clause-moves g c =

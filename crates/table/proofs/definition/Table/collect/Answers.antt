@@ -1,12 +1,8 @@
 use Rattle.std.proofs.Common.{w32, SFits, rules}
 use Rattle.std.proofs.lemmas.Bool.{not-false, not-true}
 use Rattle.std.proofs.lemmas.Int.{to_z-of_z}
-use Rattle.model.specs.Table.{collect_none}
 use Rattle.table.proofs.Moving.{collected_so, too_early}
 use Rattle.table.proofs.definition.Table.collect.Goals as goal
-
-pub returns-in_default-clause-moves : goal.returns-in_default-clause-moves
-returns-in_default-clause-moves g c = rw (← c.place-place.ensures) (collect_none c.place-place.result c.in_default.ensures)
 
 pub returns-then-not-job-clause-moves : goal.returns-then-not-job-clause-moves
 returns-then-not-job-clause-moves g c =

@@ -1,6 +1,7 @@
 pub mod Rows
 pub mod Members
 pub mod Spreading
+pub mod Reaching
 pub mod Gathering
 pub mod Trees
 pub mod Fine

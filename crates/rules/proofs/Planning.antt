@@ -10,13 +10,13 @@ use Rattle.itemset.specs.Members.{holds, nothing}
 use Rattle.rules.specs.declared.plan.Plan.{Plan}
 use Rattle.rules.specs.declared.state.State.{State}
 use Rattle.rules.specs.Plans.{HasType, Planned}
-use Rattle.rules.specs.Reach.{HeldBy, Joined, Reaches, here, step}
+use Rattle.rules.specs.Reach.{HeldBy, Joined, Reaches}
 use Rattle.rules.specs.Rules.{Arc, Parent, nowhere}
 use Rattle.rules.specs.Sets.{ChildIn, Deepest, Exactly, LeftBehind, Names, NamesAlong, item_at}
 use Rattle.rules.specs.View.{state_at, workload_of}
 use Rattle.rules.proofs.Formed.{top_marked}
 use Rattle.rules.proofs.Gathering.{reaches_map}
-use Rattle.rules.proofs.Rows.{reaches_on}
+use Rattle.rules.proofs.Rows.{turned}
 use Rattle.rules.proofs.Matching.{above_reaches, arc_in, arc_out, not_top, reaches_above, reaches_way, way_reaches}
 
 -- a way to a state begins in a state
@@ -72,11 +72,6 @@ module _ (states : List State) (named : ItemSet) (N : Naming states named) (up :
 pub lacking_of
     : {P Q : ℕ → Type 0} (all x : ItemSet) → Exactly all P → Exactly x (λ d. (holds all d ≡ true) × Q d) → Exactly x (λ d. P d × Q d)
 lacking_of all x a h d = (λ e. let q = (h d).0 e in ((a d).0 q.0, q.1), λ q. (h d).1 ((a d).1 q.0, q.1))
-
--- a way the other way round
-pub turned : {E : ℕ → ℕ → Type 0} {s t : ℕ} → Reaches E s t → Reaches (λ a b. E b a) t s
-turned here = here
-turned (step e p) = reaches_on (turned p) (step e here)
 
 -- the rows of the states: those before each, and the items that are named ahead and behind
 pub record Going (states : List State) (back ahead behind : List ItemSet) : Type 0 where

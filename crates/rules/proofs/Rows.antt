@@ -23,3 +23,8 @@ joined_within rows s t h = elim (cases_lt s (length rows)) [
 pub reaches_on : {E : ℕ → ℕ → Type 0} {s m t : ℕ} → Reaches E s m → Reaches E m t → Reaches E s t
 reaches_on here q = q
 reaches_on (step e p) q = step e (reaches_on p q)
+
+-- a way the other way round
+pub turned : {E : ℕ → ℕ → Type 0} {s t : ℕ} → Reaches E s t → Reaches (λ a b. E b a) t s
+turned here = here
+turned (step e p) = reaches_on (turned p) (step e here)

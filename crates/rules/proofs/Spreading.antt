@@ -226,7 +226,7 @@ module _ (along first old new : List ItemSet) (order : Order) (n k s : ℕ) (wit
         }
 
 -- each number has its turn
-its_turn : (order : Order) (n s : ℕ) → s < n → (j : ℕ) × (j < n) × (turn order n j ≡ s)
+pub its_turn : (order : Order) (n s : ℕ) → s < n → (j : ℕ) × (j < n) × (turn order n j ≡ s)
 its_turn Up n s l = (s, l, refl)
 its_turn Down n s l = (n - 1 - s, omega arith, omega arith)
 

@@ -3,6 +3,8 @@ use Rattle.std.specs.Prelude.{◌≡◌, ℕ, ◌-◌, ◌<◌, ◌⊎◌, Bool,
 use Rattle.itemset.specs.Members.{holds, nothing}
 use Rattle.itemset.specs.declared.ItemSet.{ItemSet}
 use Rattle.rules.specs.declared.closure.Order.{Order}
+use Rattle.rules.specs.declared.closure.Way.{Way}
+use Rattle.rules.specs.declared.closure.Way.TheVariants.{On, Back}
 use Rattle.rules.specs.declared.closure.Order.TheVariants.{Up, Down}
 
 -- row s holds t; a row past the end holds nothing
@@ -49,3 +51,30 @@ pub record Pulls (E : ℕ → ℕ → Type 0) (old new : List ItemSet) (more : B
 abbrev pub turn : Order → ℕ → ℕ → ℕ
 turn Up n k = k
 turn Down n k = n - 1 - k
+
+-- the relation that rows hold, or its converse
+abbrev pub along : Way → List ItemSet → ℕ → ℕ → Type 0
+along On rows s m = Joined rows s m
+along Back rows s m = Joined rows m s
+
+-- some number of the set reaches t
+abbrev pub ReachedFrom : (ℕ → ℕ → Type 0) → ItemSet → ℕ → Type 0
+ReachedFrom E from t = (s : ℕ) × (holds from s ≡ true) × Reaches E s t
+
+-- of the two numbers that the relation joins, the one in whose row the other stands
+abbrev pub row_of : Way → ℕ → ℕ → ℕ
+row_of On m t = m
+row_of Back m t = t
+
+-- the set took in numbers that some of its own are joined to, and all where row s tells so
+pub record TakesIn (rows : List ItemSet) (s : ℕ) (way : Way) (old new : ItemSet) : Type 0 where
+  pub kept : (t : ℕ) → holds old t ≡ true → holds new t ≡ true
+  pub only : (t : ℕ) → holds new t ≡ true → (holds old t ≡ true) ⊎ ((m : ℕ) × (holds old m ≡ true) × along way rows m t)
+  pub took : (m t : ℕ) → row_of way m t ≡ s → along way rows m t → holds old m ≡ true → holds new t ≡ true
+
+-- the set took in numbers that its own reach; `more` is whether it may still lack some
+pub record Grows (E : ℕ → ℕ → Type 0) (old new : ItemSet) (more : Bool) : Type 0 where
+  pub kept : (t : ℕ) → holds old t ≡ true → holds new t ≡ true
+  pub only : (t : ℕ) → holds new t ≡ true → ReachedFrom E old t
+  pub quiet : more ≡ false → (m t : ℕ) → E m t → holds new m ≡ true → holds new t ≡ true
+  pub loud : more ≡ true → (t : ℕ) × (t < 64) × (holds new t ≡ true) × (holds old t ≡ false)

@@ -1,14 +1,14 @@
 // Relations on numbers, each held as a row of sets.
 ghost use Rattle.std.specs.Prelude.{◌≡◌, ℕ, ◌<◌, ◌≤◌, ◌⊎◌, true, length, slice_index_or};
-ghost use Rattle.rules.specs.Reach.{Ahead, HeldBy, Joined, Pulls, TakesOver, turn};
+ghost use Rattle.rules.specs.Reach.{Ahead, Grows, HeldBy, Joined, Pulls, ReachedFrom, TakesIn, TakesOver, along, turn};
 ghost use Rattle.rules.specs.Sets.{Exactly, Rows};
 ghost use Rattle.itemset.specs.Members.{holds, nothing};
 
-use crate::places::places;
+use crate::places::{below, meet, places};
 use itemset::ItemSet;
 
 // The set of one number.
-fn only(d: usize) -> ItemSet
+pub(crate) fn only(d: usize) -> ItemSet
     requires { d < 64 }
     ensures { Exactly result (λ t. t ≡ d) }
 {
@@ -33,6 +33,23 @@ impl Order {
         match self {
             Order::Up => k,
             Order::Down => n - 1 - k,
+        }
+    }
+}
+
+// Whether a relation is followed from a number to those that it is joined to, or from these back to it.
+#[derive(Clone, Copy)]
+pub(crate) enum Way {
+    On,
+    Back,
+}
+
+impl Way {
+    // In which order the rows are gone through, so that ways to higher numbers are followed in one round.
+    fn order(self) -> Order {
+        match self {
+            Way::On => Order::Up,
+            Way::Back => Order::Down,
         }
     }
 }
@@ -135,6 +152,44 @@ impl<const N: usize> Relation<N> {
         ensures { Rows N self.new.rows (Ahead (Joined along.now.rows) self.old.rows) }
     {
         while self.pull(along, count, order) {}
+    }
+
+    // The set, and what the row of s joins to it.
+    fn take_in(&self, s: usize, way: Way, set: ItemSet) -> ItemSet
+        requires { s < N }
+        ensures { TakesIn self.now.rows s way set result }
+    {
+        match way {
+            Way::On if set.contains(s as u8) => set.union(self.rows[s]),
+            Way::Back if meet(self.rows[s], set) => set.union(only(s)),
+            _ => set,
+        }
+    }
+
+    // Each row joins to the set what it can. Tells whether the set may still lack some: not where it did not grow, nor where it has all.
+    fn grow(&self, count: usize, way: Way, set: &mut ItemSet) -> bool
+        requires count { count ≤ N }
+        requires within { (s m : ℕ) → Joined self.now.rows s m → (s < count) × (m < count) }
+        ensures { Grows (along way self.now.rows) set.old set.new result }
+    {
+        let old = *set;
+        let order = way.order();
+        for k in 0..count {
+            let s = order.turn(count, k);
+            *set = self.take_in(s, way, *set);
+        }
+        set.difference(old).lowest().is_some() && !below(count).is_subset(*set)
+    }
+
+    // The numbers of the set, and all that are reached from them. Only the first `count` numbers are joined.
+    pub(crate) fn reached(&self, count: usize, way: Way, from: ItemSet) -> ItemSet
+        requires count { count ≤ N }
+        requires within { (s m : ℕ) → Joined self.now.rows s m → (s < count) × (m < count) }
+        ensures { Exactly result (ReachedFrom (along way self.now.rows) from) }
+    {
+        let mut reached = from;
+        while self.grow(count, way, &mut reached) {}
+        reached
     }
 
     // The numbers whose row holds m.

@@ -1,10 +1,20 @@
-// The places in a list of the elements that pass a test.
+// Sets of the numbers of a list's elements.
 ghost use Rattle.std.specs.Prelude.{◌≡◌, ℕ, ◌<◌, ◌≤◌, true, length, Decides, slice_index_or};
 ghost use Rattle.std.specs.Fn.{FnReturnsAt};
 ghost use Rattle.itemset.specs.Members.{holds};
+ghost use Rattle.rules.specs.Sets.{Exactly};
 
 use itemset::ItemSet;
 
+// The numbers of n elements.
+pub(crate) fn below(n: usize) -> ItemSet
+    requires { n ≤ 64 }
+    ensures { Exactly result (λ s. s < n) }
+{
+    ItemSet::below(n as u8)
+}
+
+// The places in a list of the elements that pass a test.
 pub(crate) fn places<T, F: Fn(&T) -> bool>(list: &[T], test: F) -> ItemSet
     requires few { length list.now ≤ 64 }
     requires callable { F.IsAlwaysCallable test }

@@ -1,11 +1,10 @@
 // What can be reached from a state of a job type.
 ghost use Rattle.std.specs.Prelude.{◌≡◌, ◌<◌, ◌≤◌, length, MatchOption};
-ghost use Rattle.rules.specs.Reach.{Reaches};
-ghost use Rattle.rules.specs.Rules.{AllPlaced, Arc, Leads, StraysAt, Terminal};
+ghost use Rattle.rules.specs.Rules.{AllPlaced, Arc, Leads, Placed, StraysAt, Terminal};
 ghost use Rattle.rules.specs.Sets.{Exactly, Rows};
 
-use crate::closure::{Order, Relation};
-use crate::places::{meet, places};
+use crate::closure::{Relation, Way, only};
+use crate::places::{below, places};
 use crate::state::State;
 use itemset::ItemSet;
 
@@ -62,15 +61,6 @@ impl<'a> Graph<'a> {
         Relation::from_fn(|s| self.next(s))
     }
 
-    // For each state the states that can be reached from it.
-    pub(crate) fn reached(&self) -> Relation<32>
-        ensures { Rows 32 result.rows (Reaches (Arc self.now.states.now)) }
-    {
-        let mut reached = Relation::selves();
-        reached.spread(&self.arcs(), self.states.len(), Order::Down);
-        reached
-    }
-
     // The terminal states.
     fn ends(&self) -> ItemSet
         ensures { Exactly result (λ e. (e < length self.now.states.now) × Terminal self.now.states.now e) }
@@ -78,15 +68,23 @@ impl<'a> Graph<'a> {
         places(self.states, |state| state.arc_count == 0)
     }
 
-    // The lowest state that is not reached from state 0 or reaches no terminal state.
+    // The states that are reached from state 0 and reach a terminal state.
+    fn placed(&self) -> ItemSet
+        ensures { Exactly result (Placed self.now.states.now) }
+    {
+        let arcs = self.arcs();
+        let count = self.states.len();
+        let from_start = arcs.reached(count, Way::On, only(0));
+        let to_end = arcs.reached(count, Way::Back, self.ends());
+        from_start.intersection(to_end)
+    }
+
+    // The lowest state that is not placed.
     fn lowest_stray(&self) -> Option<usize>
         ensures { MatchOption result (AllPlaced self.now.states.now) (StraysAt self.now.states.now) }
     {
-        let reached = self.reached();
-        let from_start = reached.rows[0];
-        let ends = self.ends();
-        (0..self.states.len()).find(|&s| !from_start.contains(s as u8)
-            || !meet(reached.rows[s], ends))
+        let stray = below(self.states.len()).difference(self.placed()).lowest()?;
+        Some(stray as usize)
     }
 }
 

@@ -1,12 +1,18 @@
-use Rattle.std.proofs.Common.{◌<◌, length, rules, tests, arith}
-use Rattle.std.proofs.lemmas.Iterator.{first_from_Range}
-use Rattle.rules.specs.Rules.{AllPlaced, StraysAt, Placed, stray}
-use Rattle.rules.proofs.Lowest.{lowest_found}
+use Rattle.std.proofs.Common.{length}
+use Rattle.rules.specs.Rules.{Placed, stray}
+use Rattle.rules.proofs.Lowest.{lowest_lacks, none_lacks}
 use Rattle.rules.proofs.ways.Graph.lowest_stray.Goals as goal
+
+pub returns-in_err-stray : goal.returns-in_err-stray
+returns-in_err-stray c =
+    let graph = c.args.self.now in
+    let states = graph.states.now in
+    rw c.from_residual.ensures
+    (graph.few, none_lacks (Placed states) (length states) c.below.result c.placed.result c.difference.result c.below.ensures c.placed.ensures c.difference.ensures (c.in_err-stray.ensures))
 
 pub returns : goal.returns
 returns c =
-    let states = c.args.self.now.states.now in
-    lowest_found (Placed states) (length states) 32 (omega arith) (AllPlaced states) (StraysAt states) (λ h. (c.args.self.now.few, h)) (λ i h. stray c.args.self.now.few h) _
-    (first_from_Range _ _ _ c.find.result (λ i. i < 32 → Placed states i → ⊥) (λ i. i < 32 → Placed states i) c.find.ensures.ran
-    (λ x q h l w. search (rules, tests)) (λ x q h. (search rules, search (rules, tests))))
+    let graph = c.args.self.now in
+    let states = graph.states.now in
+    let low = c.in_ok-stray.ensures in
+    stray graph.few (lowest_lacks (Placed states) (length states) c.below.result c.placed.result c.difference.result c.below.ensures c.placed.ensures c.difference.ensures c.in_ok-stray.stray low.0 low.1)

@@ -1,6 +1,6 @@
 -- A loop that goes through the numbers of a set and takes each out of what is left of it.
 use Rattle.std.proofs.Common.{◌≡◌, ℕ, ◌<◌, Bool, true, false, not, ◌&&◌, eqb, ◌⊎◌, sym, refl, ap, ◌∙◌, inl, inr}
-use Rattle.std.proofs.lemmas.Bool.{cases_eq, and_left, and_parts, and_right, both_ways, eq-eqb, ne_eqb, not_from_true}
+use Rattle.std.proofs.lemmas.Bool.{cases_eq, and_left, and_parts, and_right, eq-eqb, ne_eqb, not_from_true}
 use Rattle.itemset.proofs.Counting.{count, fewer}
 use Rattle.itemset.specs.declared.ItemSet.{ItemSet}
 use Rattle.itemset.specs.Members.{holds}
@@ -9,9 +9,6 @@ use Rattle.itemset.specs.Members.{holds}
 pub record Done (set rest : ItemSet) (m : ℕ) : Type 0 where
   pub inside : holds set m ≡ true
   pub gone : holds rest m ≡ false
-
-pub done_none : (set : ItemSet) (m : ℕ) → Done set set m → ⊥
-done_none set m d = both_ways (holds set m) d.gone d.inside
 
 module _ (set rest left : ItemSet) (d : ℕ) (within : (m : ℕ) → holds rest m ≡ true → holds set m ≡ true) (next : holds rest d ≡ true)
     (e : (m : ℕ) → holds left m ≡ (holds rest m && not (eqb m d))) where

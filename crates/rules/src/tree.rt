@@ -1,5 +1,5 @@
 // The tree of items, as a row of parent bytes: each names the item right above, and 255 marks the root.
-ghost use Rattle.std.specs.Prelude.{◌≡◌, ◌<◌, ◌≤◌, length, Decides, MatchOption, slice_index};
+ghost use Rattle.std.specs.Prelude.{◌≡◌, ◌<◌, ◌≤◌, length, Decides, MatchOption, MatchResult, slice_index};
 ghost use Rattle.rules.specs.Reach.{Reaches};
 ghost use Rattle.rules.specs.Rules.{AllRooted, BreaksAt, Parent, RightParent};
 ghost use Rattle.rules.specs.Sets.{ChildOf, Exactly, Rows};
@@ -92,11 +92,11 @@ impl<'a> Tree<'a> {
             || (p == ROOT_MARK && !self.parents[..i].contains(&ROOT_MARK))
     }
 
-    // The lowest item whose byte is wrong or whose way up never meets the root's mark.
-    fn lowest_unrooted(&self) -> Option<usize>
+    // The lowest item whose byte is wrong or whose way up never meets the root's mark; `above` has the ways up.
+    fn lowest_unrooted(&self, above: &Relation<64>) -> Option<usize>
+        requires { Rows 64 above.now.rows (Reaches (Parent self.now.parents.now)) }
         ensures { MatchOption result (AllRooted self.now.parents.now) (BreaksAt self.now.parents.now) }
     {
-        let above = self.above();
         let marked = self.marked();
         (0..self.parents.len()).find(|&i| !self.right_byte(i) || !meet(above.rows[i], marked))
     }
@@ -113,28 +113,30 @@ pub struct LockTree<'a> {
 }
 
 impl<'a> LockTree<'a> {
-    // Nothing where there are more items than a set can hold.
-    pub fn of(parents: &'a [u8]) -> Option<LockTree<'a>>
-        ensures { MatchOption result (64 < length parents.now) (λ lock. lock.tree.parents.now ≡ parents.now) }
+    // The tree that the bytes make; or the item that breaks it: the lowest that is not rooted, or the first one past the limit.
+    // That states hang together is told alike, but over definitions of its own.
+    pub fn of(parents: &'a [u8]) -> Result<LockTree<'a>, usize>
+        ensures { MatchResult result (λ lock. (lock.tree.parents.now ≡ parents.now) × AllRooted parents.now) (BreaksAt parents.now) }
     {
-        let tree = Tree::of(parents)?;
+        let Some(tree) = Tree::of(parents) else {
+            return Err(MOST_ITEMS);
+        };
         let above = tree.above();
+        if let Some(i) = tree.lowest_unrooted(&above) {
+            return Err(i);
+        }
         let children = tree.children();
-        Some(LockTree {
+        Ok(LockTree {
             tree,
             above,
             children,
         })
     }
-}
 
-// The item that breaks the tree: the lowest that is not rooted, or the first one past the limit;
-// nothing where the bytes make a tree. That states hang together is told alike, but over definitions of its own.
-pub fn first_unrooted(parents: &[u8]) -> Option<usize>
-    ensures { MatchOption result (AllRooted parents.now) (BreaksAt parents.now) }
-{
-    let Some(tree) = Tree::of(parents) else {
-        return Some(MOST_ITEMS);
-    };
-    tree.lowest_unrooted()
+    // The bytes that make it.
+    pub fn parents(&self) -> &'a [u8]
+        ensures { result.now ≡ self.now.tree.parents.now }
+    {
+        self.tree.parents
+    }
 }

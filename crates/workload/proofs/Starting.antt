@@ -1,9 +1,9 @@
 -- A workload of one lone state keeps the rules.
-use Rattle.std.proofs.Common.{◌≡◌, ℕ, zero, suc, ◌<◌, ◌≤◌, List, [], ◌∷◌, length, get_or, ℤ, refl, ap, ◌∙◌, inr, arith, w32, SFits}
+use Rattle.std.proofs.Common.{◌≡◌, ℕ, zero, suc, ◌<◌, ◌≤◌, true, List, [], ◌∷◌, length, get_or, Result, Ok, Err, MatchResult, is_ok, ℤ, refl, ap, ◌∙◌, inr, arith, w32, SFits}
 use Rattle.rules.specs.declared.state.State.{State}
 use Rattle.rules.specs.Lawful.{Lawful}
 use Rattle.rules.specs.Reach.{here}
-use Rattle.rules.specs.Rules.{Connected, Rooted, nowhere}
+use Rattle.rules.specs.Rules.{BreaksAt, Connected, Rooted, nowhere, too_many_items, unrooted}
 use Rattle.rules.proofs.Fine.{FineType, InRange}
 use Rattle.rules.proofs.Formed.{lawful_from}
 use Rattle.workload.specs.Types.{lone_state}
@@ -21,6 +21,15 @@ zeros (suc (suc (suc (suc k)))) = refl
 pub one_rooted : (i : ℕ) → i < 1 → Rooted (255 ∷ []) i
 one_rooted zero h = (inr (refl, λ j l. absurd (omega arith)), (0, omega arith, here, refl))
 one_rooted (suc i) h = absurd (omega arith)
+
+-- so no item breaks the tree
+none_breaks : (i : ℕ) → BreaksAt (255 ∷ []) i → ⊥
+none_breaks i (unrooted l b) = b.1 (one_rooted i b.0)
+none_breaks i (too_many_items l e) = absurd (omega arith)
+
+pub makes_tree : {L : Type 0} (P : L → Type 0) (r : Result L ℕ) → MatchResult r P (BreaksAt (255 ∷ [])) → is_ok r ≡ true
+makes_tree P (Ok x) h = refl
+makes_tree P (Err i) h = absurd (none_breaks i h)
 
 -- a type of one terminal state
 pub lone_fine

@@ -20,7 +20,7 @@ Spans bs s note = (s.place + s.length ≡ length bs) × (drop s.place bs ≡ not
 
 -- what the parts of a file hold, with its job types
 abbrev pub contents_of : FileParts → List (List State) → Contents
-contents_of p types = record { parents = p.parents.now; codes = p.code_count; types = types; note = p.note.now }
+contents_of p types = record { parents = p.lock.tree.parents.now; codes = p.code_count; types = types; note = p.note.now }
 
 -- the file is the workload's with a note, and the span is the note's
 abbrev pub Filled : List ℕ → Workload → NoteSpan → Type 0

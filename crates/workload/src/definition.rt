@@ -9,6 +9,7 @@ use crate::plans::planned_types;
 use crate::row::StateRow;
 use rules::plan::Plan;
 use rules::state::State;
+use rules::tree::LockTree;
 use std::alloc::{AllocError, Global};
 
 // A job type begins in its state 0. Its plan is kept with it, so that no step of a job walks a graph.
@@ -38,15 +39,15 @@ impl Workload {
     // The workload that parts make which keep the rules.
     pub(crate) fn of_parts(
         heap: Global,
-        parents: &[u8],
+        lock: &LockTree,
         code_count: u8,
         types: &[StateRow],
     ) -> Result<Workload, AllocError>
-        requires { Lawful parents.now code_count types.now }
-        ensures { IfOk result (λ w. (w.parents.items ≡ parents.now) × (w.code_count ≡ code_count) × (all_states w.types.items ≡ types.now)) }
+        requires { Lawful lock.now.tree.parents.now code_count types.now }
+        ensures { IfOk result (λ w. (w.parents.items ≡ lock.now.tree.parents.now) × (w.code_count ≡ code_count) × (all_states w.types.items ≡ types.now)) }
     {
-        let types = planned_types(heap, parents, types)?;
-        let parents = Vec::from_slice(heap, parents)?;
+        let types = planned_types(heap, lock, types)?;
+        let parents = Vec::from_slice(heap, lock.parents())?;
         Ok(Workload {
             parents,
             code_count,

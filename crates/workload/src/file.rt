@@ -8,6 +8,7 @@ use crate::definition::Workload;
 use crate::fault::Fault;
 use crate::read::Rest;
 use crate::row::TypeRow;
+use rules::tree::LockTree;
 use std::alloc::Global;
 
 // Where the note of a file stands.
@@ -20,7 +21,7 @@ pub struct NoteSpan {
 // The parts of a file that has no fault, but for its job types.
 #[derive(Drop)]
 struct FileParts<'a> {
-    parents: &'a [u8],
+    lock: LockTree<'a>,
     code_count: u8,
     note: &'a [u8],
 }
@@ -42,11 +43,11 @@ fn survey<'a>(file: &'a [u8], types: &mut TypeRow) -> Result<FileParts<'a>, Faul
 {
     let mut rest = Rest::of(file);
     let sizes = rest.header()?;
-    let parents = rest.parents(sizes.items)?;
+    let lock = rest.parents(sizes.items)?;
     rest.job_types(sizes, types)?;
     let note = rest.note()?;
     Ok(FileParts {
-        parents,
+        lock,
         code_count: sizes.codes,
         note,
     })
@@ -59,7 +60,7 @@ fn load(heap: Global, file: &[u8]) -> Result<(Workload, NoteSpan), Fault>
 {
     let mut types = TypeRow::empty();
     let parts = survey(file, &mut types)?;
-    let workload = Workload::of_parts(heap, parts.parents, parts.code_count, types.as_slice())?;
+    let workload = Workload::of_parts(heap, &parts.lock, parts.code_count, types.as_slice())?;
     let length = parts.note.len();
     let span = NoteSpan {
         place: file.len() - length,

@@ -11,21 +11,20 @@ use rules::plan::plan_of;
 use rules::tree::LockTree;
 use std::alloc::{AllocError, Global};
 
-// Takes job types into memory, each with its plan.
+// Takes job types over the tree into memory, each with its plan.
 pub(crate) fn planned_types(
     heap: Global,
-    parents: &[u8],
+    lock: &LockTree,
     rows: &[StateRow],
 ) -> Result<Vec<JobType>, AllocError>
-    requires { (codes : ℕ) × Lawful parents.now codes rows.now }
+    requires { (codes : ℕ) × Lawful lock.now.tree.parents.now codes rows.now }
     ensures states { IfOk result (λ v. all_states v.items ≡ rows.now) }
-    ensures plans { IfOk result (λ v. (codes : ℕ) → Lawful parents.now codes rows.now → Kept (workload_of parents.now codes rows.now) (all_plans v.items)) }
+    ensures plans { IfOk result (λ v. (codes : ℕ) → Lawful lock.now.tree.parents.now codes rows.now → Kept (workload_of lock.now.tree.parents.now codes rows.now) (all_plans v.items)) }
 {
-    let tree = LockTree::of(parents).unwrap();
     let mut types = Vec::with_capacity(heap, rows.len())?;
     for row in rows {
         let states = Vec::from_slice(heap, row.as_slice())?;
-        let plan = plan_of(&tree, row.as_slice()).unwrap();
+        let plan = plan_of(lock, row.as_slice()).unwrap();
         types.push(JobType { states, plan })?;
     }
     Ok(types)

@@ -5,7 +5,7 @@ ghost use Rattle.workload.specs.Format.{RightArc, WrongByte};
 use crate::fault::Fault;
 use crate::row::{StateRow, TypeRow};
 use rules::state::State;
-use rules::tree::first_unrooted;
+use rules::tree::LockTree;
 use rules::ways::first_stray;
 
 // How many items, types and codes a workload has.
@@ -132,19 +132,20 @@ impl<'a> Rest<'a> {
         })
     }
 
-    // Reads the parents of n items and tests that they make a tree.
-    pub(crate) fn parents(&mut self, n: u8) -> Result<&'a [u8], Fault>
+    // Reads the parents of n items, which have to make a tree.
+    pub(crate) fn parents(&mut self, n: u8) -> Result<LockTree<'a>, Fault>
         requires { n ≤ 64 }
-        ensures { Gives (Parents n) (λ ps. ps.now) self.old self.new result }
+        ensures { Gives (Parents n) (λ lock. lock.tree.parents.now) self.old self.new result }
     {
         let Some((parents, rest)) = self.bytes.split_at_checked(n as usize) else {
             return Err(Fault::Missing(self.end));
         };
-        if let Some(i) = first_unrooted(parents) {
-            return Err(Fault::Tree(self.place(i)));
-        }
+        let lock = match LockTree::of(parents) {
+            Ok(lock) => lock,
+            Err(i) => return Err(Fault::Tree(self.place(i))),
+        };
         self.bytes = rest;
-        Ok(parents)
+        Ok(lock)
     }
 
     // Reads one state's record and leaves the rest of the file to the next.

@@ -5,7 +5,7 @@ ghost use Rattle.workload.specs.View.{Single};
 use crate::definition::Workload;
 use crate::row::StateRow;
 use rules::state::State;
-use rules::tree::ROOT_MARK;
+use rules::tree::{LockTree, ROOT_MARK};
 use std::alloc::{AllocError, Global};
 
 impl Workload {
@@ -22,7 +22,8 @@ impl Workload {
         };
         let mut states = StateRow::empty();
         states.push(state);
-        Workload::of_parts(heap, &[ROOT_MARK], 1, &[states])
+        let lock = LockTree::of(&[ROOT_MARK]).unwrap();
+        Workload::of_parts(heap, &lock, 1, &[states])
     }
 
     // The workload to start from: one item, one code, and one type of one terminal state with operand 0.

@@ -7,5 +7,5 @@ use Rattle.workload.proofs.plans.planned_types.Given as goal
 abbrev pub invariant-loop-row : goal.invariant-loop-row
 invariant-loop-row l = record {
   states : all_states (vec_items l.types) ≡ take l.row-index l.rows;
-  plans : All (λ j. PlanFor l.parents (vec_items j.states) j.plan) (vec_items l.types);
+  plans : All (λ j. PlanFor l.lock.tree.parents.now (vec_items j.states) j.plan) (vec_items l.types);
 }

@@ -1,4 +1,4 @@
-use Rattle.std.proofs.Common.{ℕ, List, vec_items, sym, subst₂, arith}
+use Rattle.std.proofs.Common.{ℕ, List, vec_items, sym, ◌∙◌, subst₂, arith}
 use Rattle.rules.specs.declared.state.State.{State}
 use Rattle.rules.specs.Lawful.{Lawful}
 use Rattle.rules.specs.Plans.{Kept}
@@ -12,7 +12,7 @@ invariant_of-result c =
     let n = c.args.code_count in
     let ps = vec_items c.in_ok-parents.parents in
     let all = vec_items c.in_ok-types.types in
-    let same = sym c.in_ok-parents.ensures.items in
+    let same = sym (c.in_ok-parents.ensures.items ∙ c.parents.ensures) in
     let read = sym c.in_ok-types.ensures.states in
     let l : Lawful ps n (all_states all) = subst₂ (λ (x : List ℕ) (y : List (List State)). Lawful x n y) same read c.requires in
     let k : Kept (workload_of ps n (all_states all)) (all_plans all) =

@@ -27,7 +27,7 @@ picked_none Q x h m = (λ e. absurd (both_ways (holds x m) (h m) e), λ q. absur
 abbrev pub Narrowed : (ℕ → ℕ → Type 0) → ItemSet → ℕ → Type 0
 Narrowed P x i = (m : ℕ) → Decides (holds x m) ((m < 64) × ((k : ℕ) → k < i → P k m))
 
--- what a set holds, what two sets hold, and what is below n and not in the set
+-- what a set holds, what two sets hold, and what one holds that another lacks
 pub holding : (x : ItemSet) → Exactly x (λ d. holds x d ≡ true)
 holding x d = (λ h. h, λ h. h)
 

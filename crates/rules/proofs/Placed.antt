@@ -1,11 +1,8 @@
 -- The places of a list whose elements pass a test.
-use Rattle.std.proofs.Common.{◌≡◌, ℕ, ◌+◌, ◌<◌, Bool, true, false, ◌||◌, eqb, List, length, get_or, Decides, sym, refl, ap, ◌∙◌, subst, inl, inr, arith}
-use Rattle.std.specs.Fn.{FnReturnsAt}
+use Rattle.std.proofs.Common.{◌≡◌, ℕ, ◌+◌, ◌<◌, Bool, true, false, ◌||◌, eqb, sym, refl, ap, ◌∙◌, subst, inl, inr, arith}
 use Rattle.std.proofs.lemmas.Bool.{cases_eq, or_cases, or_right, eqb-true, eq-eqb, ne_eqb, false_from_ne_true}
 use Rattle.itemset.specs.declared.ItemSet.{ItemSet}
 use Rattle.itemset.specs.Members.{holds}
-use denote.Param.Members.{Shared}
-use denote.Ref.{Bor}
 
 -- the set holds only numbers below i, and Q says of each of them whether the set holds it
 pub record Tested (Q : ℕ → Bool → Type 0) (x : ItemSet) (i : ℕ) : Type 0 where
@@ -39,13 +36,3 @@ tested_skip Q x i t q = record { within = λ k h. omega (arith, t.within k h); t
       | inl s ↦ subst (λ (j : ℕ). Q j (holds x j)) (sym s) (subst (Q i) (sym (false_from_ne_true (holds x i) (λ h. let b = t.within i h in omega arith))) q)
       | inr ne ↦ t.tested k (omega arith)
     ]
-
--- the test means Q, so the set holds the places of the elements of which Q holds
-pub places_are
-    : {F T : Type 0} (g : Shared F (Bor T × Unit {0}) Bool) (f : F) (Q : T → Type 0) → ((y : Bor T) (r : Bool) → g.post f (y, tt) r → Decides r (Q y.now))
-    → (xs : List T) (x : ItemSet) → ((s : ℕ) → holds x s ≡ true → s < length xs) → ((s : ℕ) (y : T) → s < length xs → FnReturnsAt g f (get_or xs s y) (holds x s))
-    → (s : ℕ) (d : T) → Decides (holds x s) ((s < length xs) × Q (get_or xs s d))
-places_are g f Q means xs x within tested s d = (λ e. let l = within s e in (l, (told l).0 e), λ q. (told q.0).1 q.1)
-  where
-    told : s < length xs → Decides (holds x s) (Q (get_or xs s d))
-    told l = let k = tested s d l in subst (λ y. Decides (holds x s) (Q y)) k.shows (means k.shown (holds x s) k.says.met)

@@ -1,16 +1,16 @@
 -- The parts of a plan are what the definitions say of its job type.
-use Rattle.std.proofs.Common.{◌≡◌, ℕ, ◌<◌, ◌≤◌, true, false, List, [], length, get_or, Decides, sym, refl, ◌∙◌, subst, inl, inr, arith}
-use Rattle.std.proofs.lemmas.Bool.{both_ways, cases_Bool}
+use Rattle.std.proofs.Common.{◌≡◌, ℕ, ◌<◌, ◌≤◌, ◌⊎◌, true, false, List, [], length, get_or, Decides, sym, refl, ◌∙◌, subst, inl, inr, arith}
+use Rattle.std.proofs.lemmas.Bool.{both_ways, cases_Bool, cases_eq}
 use Rattle.model.specs.Workload as model
-use Rattle.model.specs.Workload.{Workload, Above, Way, stay, onward, WellFormed, Unreachable, Unlockable, Named, Common, LocalRoot, Local, LocalChild, LocalLeaf}
-use Rattle.model.proofs.Tree.{above_item, local_item, local_root, root_item, root_one}
+use Rattle.model.specs.Workload.{Workload, Above, self, Way, stay, onward, WellFormed, Unreachable, Unlockable, Named, Common, LocalRoot, Local, LocalChild, LocalLeaf}
+use Rattle.model.proofs.Tree.{above_chain, above_item, above_same, above_trans, first_named, local_item, local_root, named_item, root_item, root_one}
 use Rattle.model.proofs.Ways.{way_state}
 use Rattle.itemset.specs.declared.ItemSet.{ItemSet}
 use Rattle.itemset.specs.Members.{holds, nothing}
 use Rattle.rules.specs.declared.plan.Plan.{Plan}
 use Rattle.rules.specs.declared.state.State.{State}
 use Rattle.rules.specs.Plans.{HasType, Planned}
-use Rattle.rules.specs.Reach.{HeldBy, Joined, Reaches}
+use Rattle.rules.specs.Reach.{HeldBy, Joined, Reaches, here, step}
 use Rattle.rules.specs.Rules.{Arc, Parent, nowhere}
 use Rattle.rules.specs.Sets.{ChildIn, Deepest, Exactly, LeftBehind, Names, NamesAlong, item_at}
 use Rattle.rules.specs.View.{state_at, workload_of}
@@ -60,14 +60,6 @@ module _ (states : List State) (named : ItemSet) (N : Naming states named) (up :
     λ q. (h a).1 (q.0, λ d l e. let n = (N.are d).0 e in subst (λ (x : ℕ). Joined up x a) n.2 (q.1 n.0 n.1)),
   )
 
-  pub some_named
-      : (some : ItemSet) → Exactly some (HeldBy up named)
-      → Exactly some (λ a. (s : ℕ) × (s < length states) × Joined up (item_at states s) a)
-  some_named some h a = (
-    λ e. let q = (h a).0 e in let n = (N.are q.0).0 q.1 in (n.0, n.1, subst (λ (x : ℕ). Joined up x a) (sym n.2) q.2),
-    λ q. (h a).1 (item_at states q.0, (N.are (item_at states q.0)).1 (q.0, q.1, refl), q.2),
-  )
-
 -- what a row lacks of a set
 pub lacking_of
     : {P Q : ℕ → Type 0} (all x : ItemSet) → Exactly all P → Exactly x (λ d. (holds all d ≡ true) × Q d) → Exactly x (λ d. P d × Q d)
@@ -86,7 +78,7 @@ pub record Made (parents : List ℕ) (states : List State) (p : Plan) : Type 0 w
   pub shared : ItemSet
   pub rooting : Rooting parents states up shared
   pub deepest : Deepest up shared p.root
-  pub local_is : Exactly p.local (λ d. Joined up d p.root × ((s : ℕ) × (s < length states) × Joined up (item_at states s) d))
+  pub local_is : Exactly p.local (λ d. (d ≡ p.root) ⊎ (HeldBy up p.named d × (holds shared d ≡ true → ⊥)))
   pub children_are : (d : ℕ) → d < 64 → Exactly (get_or p.children d nothing) (ChildIn parents p.local d)
   pub leaves_are : Exactly p.leaves (λ d. (d < 64) × (holds p.local d ≡ true) × ((c : ℕ) → holds (get_or p.children d nothing) c ≡ false))
   pub named_is : Exactly p.named (λ d. (s : ℕ) × (s < length states) × (item_at states s ≡ d))
@@ -140,34 +132,39 @@ module _ (parents : List ℕ) (codes : ℕ) (types : List (List State)) (t : ℕ
         never r.0 (omega (arith, R.few))
         (record { inside = common_from r.0 r.1.common; below_all = λ b e. (Up b r.0 h).1 (r.1.deepest b (common_to b e)) })
 
-    module _ (root : ℕ) (the_root : LocalRoot W t root) (local : ItemSet)
-        (locals : Exactly local (λ d. Joined up d root × ((s : ℕ) × (s < length (get_or types t [])) × Joined up (item_at (get_or types t []) s) d))) where
+    module _ (root : ℕ) (the_root : LocalRoot W t root) (named : ItemSet) (names : Exactly named (Named W t)) (local : ItemSet)
+        (locals : Exactly local (λ d. (d ≡ root) ⊎ (HeldBy up named d × (holds shared d ≡ true → ⊥)))) where
+      -- an item between the root and a named one
+      between : (d n : ℕ) → Named W t n → Above W root d → Above W d n → Local W t d
+      between d n i b a = record { root = root; is_root = the_root; below_root = b; named = n; is_named = i; above_named = a }
+
+      root_in : Local W t root
+      root_in = let i = first_named W F t ht in between root (W.item t 0) i self (the_root.common (W.item t 0) i)
+
+      -- a way up meets the root, and what it passes after that is common
+      passed : (d n : ℕ) → Named W t n → Above W d n → (holds shared d ≡ true → ⊥) → Local W t d
+      passed d n i a low = elim (above_chain (the_root.common n i) a) [
+        | inl b ↦ between d n i b a
+        | inr b ↦ absurd (low (common_from d (λ m k. above_trans b (the_root.common m k))))
+      ]
+
       is_local : Exactly local (Local W t)
       is_local d = (to, from)
         where
           to : holds local d ≡ true → Local W t d
-          to h =
-              let q = (locals d).0 h in
-              let s = q.1.0 in
-              let i = q.1.1 in
-              let a = (Over d s i).0 q.1.2 in
-              record {
-                root = root;
-                is_root = the_root;
-                below_root = (Up root d (above_item W F a (F.names_item t s ht i))).0 q.0;
-                named = (state_at types t s).item;
-                is_named = (s, i, refl);
-                above_named = a;
-              }
+          to h = elim ((locals d).0 h) [
+            | inl e ↦ subst (Local W t) (sym e) root_in
+            | inr q ↦ (let i = (names q.0.0).0 q.0.1 in passed d q.0.0 i ((Up d q.0.0 (named_item W F t ht i)).0 q.0.2) q.1)
+          ]
 
           from : Local W t d → holds local d ≡ true
-          from h =
-              let s = h.is_named.0 in
-              let i = h.is_named.1 in
-              (locals d).1 (
-                (Up root d (local_item W F t ht h)).1 (subst (λ (x : ℕ). Above W x d) (root_one W F t ht h.is_root the_root) h.below_root),
-                (s, i, (Over d s i).1 (subst (λ (x : ℕ). Above W d x) (sym h.is_named.2) h.above_named)),
-              )
+          from h = (locals d).1 (elim (cases_eq d root) [
+            | inl e ↦ inl e
+            | inr ne ↦ (let b = subst (λ (x : ℕ). Above W x d) (root_one W F t ht h.is_root the_root) h.below_root in inr (
+              (h.named, (names h.named).1 h.is_named, (Up d h.named (named_item W F t ht h.is_named)).1 h.above_named),
+              λ e. ne (above_same W F (the_root.deepest d (common_to d e)) b (root_item W F t ht the_root)),
+            ))
+          ])
 
   module _ (few : length parents ≤ 64) (local : ItemSet) (locals : Exactly local (Local W t)) (children : List ItemSet)
       (all : (d : ℕ) → d < 64 → Exactly (get_or children d nothing) (ChildIn parents local d)) where
@@ -224,13 +221,12 @@ module _ (parents : List ℕ) (codes : ℕ) (types : List (List State)) (t : ℕ
     goes : {a b : ℕ} → Way W t a b → Reaches (Arc (get_or types t [])) a b
     goes w = way_reaches parents codes types t four leads w
 
-    -- the items that are named behind m
-    Behind : (m d : ℕ) → m < length (get_or types t []) → Decides (holds (get_or behind m nothing) d) ((r : ℕ) × Way W t r m × ((state_at types t r).item ≡ d))
-    Behind m d h =
-        let u = G.behind_are m (omega (arith, G.short)) d in (
-          λ e. let q = u.0 e in (q.0, reaches_way parents codes types t four (turned q.1), q.2.1),
-          λ q. u.1 (q.0, turned (goes q.1), (from_state q.1 h, q.2)),
-        )
+    -- a state behind s that names another item than s is, or is behind, one that has an arc to s
+    behind_one_before
+        : {s r : ℕ} → Reaches (λ a b. Arc (get_or types t []) b a) s r → ¬ ((state_at types t s).item ≡ (state_at types t r).item)
+        → (m : ℕ) × model.Arc W t m s × Way W t r m
+    behind_one_before here n = absurd (n refl)
+    behind_one_before {s} (step {m = m} e p) n = (m, arc_out parents codes types t four m s e, reaches_way parents codes types t four (turned p))
 
     module _ (unreachable : List ItemSet)
         (rows : (s : ℕ) → s < 32 → Exactly (get_or unreachable s nothing) (λ d. (d < length parents) × (Joined ahead s d → ⊥))) where
@@ -252,27 +248,25 @@ module _ (parents : List ℕ) (codes : ℕ) (types : List (List State)) (t : ℕ
           to : holds (get_or unlockable s nothing) d ≡ true → Unlockable W t s d
           to e =
               let q = (left s k d).0 e in
-              let n = q.named_before in
-              let a = (Before s n.0 h).0 n.1 in
-              let b = (Behind n.0 d a.0).0 n.2 in
               let u = (is_unreachable s h d).0 q.here in
+              let b = (G.behind_are s k d).0 q.named_behind in
+              let m = behind_one_before b.1 (λ i. u.1 s (stay s) (i ∙ b.2.1)) in
               record {
                 here = u.1;
                 not_before = λ m a v. q.not_before m ((Before s m h).1 a) ((is_unreachable m a.0 d).1 (u.0, v));
-                named_before = (n.0, b.0, a, b.1, b.2);
+                named_before = (m.0, b.0, m.1, m.2, b.2.1);
               }
 
           from : Unlockable W t s d → holds (get_or unlockable s nothing) d ≡ true
           from u =
               let n = u.named_before in
-              let m = n.0 in
-              let a = n.2 in
-              let i : d < length parents = subst (λ (x : ℕ). x < length parents) n.4 (F.names_item t n.1 ht (from_state n.3 a.0)) in
+              let r = from_state n.3 n.2.0 in
+              let i : d < length parents = subst (λ (x : ℕ). x < length parents) n.4 (F.names_item t n.1 ht r) in
               (left s k d).1
               (record {
                 here = (is_unreachable s h d).1 (i, u.here);
                 not_before = λ m j v. let a = (Before s m h).0 j in u.not_before m a ((is_unreachable m a.0 d).0 v).1;
-                named_before = (m, (Before s m h).1 a, (Behind m d a.0).1 (n.1, n.3, n.4));
+                named_behind = (G.behind_are s k d).1 (n.1, step (arc_in parents codes types t four leads n.0 s n.2) (turned (goes n.3)), (r, n.4));
               })
 
   pub planned : (p : Plan) → Made parents (get_or types t []) p → Planned W t p
@@ -280,7 +274,7 @@ module _ (parents : List ℕ) (codes : ℕ) (types : List (List State)) (t : ℕ
       let R = M.rooting in
       let G = M.going in
       let root = is_root M.up M.shared R p.root M.deepest in
-      let locals = is_local M.up M.shared R p.root root p.local M.local_is in
+      let locals = is_local M.up M.shared R p.root root p.named M.named_is p.local M.local_is in
       let are = is_unreachable M.back M.ahead M.behind G p.unreachable M.unreachable_are in
       record {
         root = root;

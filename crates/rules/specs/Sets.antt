@@ -42,8 +42,8 @@ pub record ChildIn (parents : List ℕ) (set : ItemSet) (d c : ℕ) : Type 0 whe
   pub parent : slice_index_or parents c 0 ≡ d
   pub below : holds set c ≡ true
 
--- d is unreachable from s, but from no state before s, and behind one of these
+-- d is unreachable from s, but from no state before s, and named at s or behind it
 pub record LeftBehind (back unreachable behind : List ItemSet) (s d : ℕ) : Type 0 where
   pub here : Joined unreachable s d
   pub not_before : (m : ℕ) → Joined back s m → Joined unreachable m d → ⊥
-  pub named_before : (m : ℕ) × Joined back s m × Joined behind m d
+  pub named_behind : Joined behind s d

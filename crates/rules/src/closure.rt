@@ -4,7 +4,7 @@ ghost use Rattle.rules.specs.Reach.{Ahead, Grows, HeldBy, Joined, Pulls, Reached
 ghost use Rattle.rules.specs.Sets.{Exactly, Rows};
 ghost use Rattle.itemset.specs.Members.{holds, nothing};
 
-use crate::places::{below, meet, places};
+use crate::places::{below, meet};
 use itemset::ItemSet;
 
 // The set of one number.
@@ -190,13 +190,6 @@ impl<const N: usize> Relation<N> {
         let mut reached = from;
         while self.grow(count, way, &mut reached) {}
         reached
-    }
-
-    // The numbers whose row holds m.
-    pub(crate) fn column(&self, m: u8) -> ItemSet
-        ensures { Exactly result (λ s. Joined self.now.rows s m) }
-    {
-        places(&self.rows, |row| row.contains(m))
     }
 }
 

@@ -1,8 +1,8 @@
 // The local lock tree of a job type. A relation here joins each item to itself and the items above it,
 // or to its children.
-ghost use Rattle.std.specs.Prelude.{◌≡◌, ℕ, ◌<◌, true, false, MatchOption, slice_index_or};
+ghost use Rattle.std.specs.Prelude.{◌≡◌, ℕ, ◌<◌, ◌⊎◌, true, false, MatchOption, slice_index_or};
 ghost use Rattle.itemset.specs.Members.{holds, nothing};
-ghost use Rattle.rules.specs.Reach.{Joined};
+ghost use Rattle.rules.specs.Reach.{HeldBy, Joined};
 ghost use Rattle.rules.specs.Sets.{ChildIn, Deepest, Exactly, Rows};
 
 use crate::closure::Relation;
@@ -34,6 +34,17 @@ impl Relation<64> {
             }
         }
         None
+    }
+
+    // The items of the local lock tree: the root, and what the ways up from the named items pass and do not have in common.
+    // The root is the deepest that they have in common, so the rest lies below it.
+    pub(crate) fn local_items(&self, named: ItemSet, common: ItemSet, root: u8) -> ItemSet
+        requires { root < 64 }
+        ensures { Exactly result (λ d. (d ≡ root) ⊎ (HeldBy self.now.rows named d × (holds common d ≡ true → ⊥))) }
+    {
+        let mut local = self.held_by(named).difference(common);
+        local.insert(root);
+        local
     }
 
     // The items of the set whose row is empty.

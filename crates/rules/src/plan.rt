@@ -46,9 +46,9 @@ pub fn plan_of(lock: &LockTree, states: &[State]) -> Option<Plan>
         return None;
     }
     let named = graph.named();
-    let root = up.deepest_of(up.common_above(named))?;
-    let under = up.column(root);
-    let local = under.intersection(up.held_by(named));
+    let common = up.common_above(named);
+    let root = up.deepest_of(common)?;
+    let local = up.local_items(named, common, root);
     let children = lock.children_in(local);
     let leaves = children.childless_in(local);
     // The checker follows a row of a field into the plan only through a variable.

@@ -65,7 +65,8 @@ impl Relation<32> {
     }
 }
 
-// What a job has just left behind when it comes to state s. Each state is joined to those that have an arc to it by `back`.
+// What a job has just left behind when it comes to state s. Each state is joined to those that have an arc to it by `back`,
+// and by `behind` to what it names and what those before it do.
 fn left_behind(
     back: &Relation<32>,
     unreachable: &Relation<32>,
@@ -75,10 +76,10 @@ fn left_behind(
     requires { s < 32 }
     ensures { Exactly result (LeftBehind back.now.rows unreachable.now.rows behind.now.rows s) }
 {
-    let before = back.rows[s];
-    let named = behind.held_by(before);
-    let already = unreachable.held_by(before);
-    named.intersection(unreachable.rows[s]).difference(already)
+    let already = unreachable.held_by(back.rows[s]);
+    behind.rows[s]
+        .intersection(unreachable.rows[s])
+        .difference(already)
 }
 
 // For each state what a job has just left behind when it comes there.

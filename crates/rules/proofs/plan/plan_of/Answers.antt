@@ -1,14 +1,14 @@
 use Rattle.std.proofs.Common.{◌≡◌, ℕ, ◌<◌, ◌≤◌, List, length, get_or, sym, refl, subst, arith}
 use Rattle.rules.specs.declared.state.State.{State}
-use Rattle.rules.specs.Reach.{Joined, Reaches}
+use Rattle.rules.specs.Reach.{Reaches}
 use Rattle.rules.specs.Rules.{Arc, Parent}
 use Rattle.rules.specs.Sets.{Exactly, item_at}
 use Rattle.rules.specs.View.{workload_of}
 use Rattle.rules.proofs.Settled.{settled}
 use Rattle.itemset.specs.Members.{nothing}
 use mathlib.Core.Logic.{∥∥₁_elim, ∥∥₁_map}
-use Rattle.rules.proofs.Gathering.{arc_below, arc_from, back_all, back_only, both, rows_all, rows_only}
-use Rattle.rules.proofs.Planning.{Going, Made, Rooting, common_named, lacking_of, named_along, naming, none_for, planned_for, some_named}
+use Rattle.rules.proofs.Gathering.{arc_below, arc_from, back_all, back_only, rows_all, rows_only}
+use Rattle.rules.proofs.Planning.{Going, Made, Rooting, common_named, lacking_of, named_along, naming, none_for, planned_for}
 use Rattle.rules.proofs.plan.plan_of.Goals as goal
 
 -- the states name items below 64
@@ -38,9 +38,9 @@ returns-in_err-root c =
     let up = lock.above.rows in
     rw c.from_residual-in_err-root.ensures
     (λ l k codes t types H. ∥∥₁_elim lock.above_are (λ (u v : ⊥). absurd u) (λ above.
-    let R : Rooting parents states up c.common_above.result =
-    record { few = few; above = above; common = common_named states c.named-named.result N up c.common_above.result c.common_above.ensures } in
-    none_for parents parents c.args.states.now states up c.common_above.result refl ss R c.in_err-root.ensures codes t types H))
+    let R : Rooting parents states up c.common_above-common.result =
+    record { few = few; above = above; common = common_named states c.named-named.result N up c.common_above-common.result c.common_above-common.ensures } in
+    none_for parents parents c.args.states.now states up c.common_above-common.result refl ss R c.in_err-root.ensures codes t types H))
 
 pub returns : goal.returns
 returns c =
@@ -53,7 +53,6 @@ returns c =
     let named = c.named-named.result in
     let N = naming states items named c.named-named.ensures in
     let up = lock.above.rows in
-    let root = c.in_ok-root.root in
     let arcs = c.arcs-arcs.result in
     let back = c.converse-back.result in
     let below = arc_below states c.in_ok-graph.graph.few in
@@ -69,10 +68,10 @@ returns c =
     } in
     let made : ((i : ℕ) → i < 64 → Exactly (get_or up i nothing) (Reaches (Parent parents) i)) → Made parents states _ = λ above. record {
       up = up;
-      shared = c.common_above.result;
-      rooting = record { few = few; above = above; common = common_named states named N up c.common_above.result c.common_above.ensures };
+      shared = c.common_above-common.result;
+      rooting = record { few = few; above = above; common = common_named states named N up c.common_above-common.result c.common_above-common.ensures };
       deepest = c.in_ok-root.ensures;
-      local_is = both (λ d. Joined up d root) (λ d. (s : ℕ) × (s < length states) × Joined up (item_at states s) d) c.column-under.result c.held_by.result c.intersection-local.result c.column-under.ensures (some_named states named N up c.held_by.result c.held_by.ensures) c.intersection-local.ensures;
+      local_is = c.local_items-local.ensures;
       children_are = c.children_in-children.ensures;
       leaves_are = c.childless_in-leaves.ensures;
       named_is = N.are;

@@ -169,35 +169,38 @@ impl<'a> Rest<'a> {
         Ok(state)
     }
 
-    // Reads as many records as a type has states.
-    fn records(&mut self, limits: Limits) -> Result<StateRow, Fault>
-        requires { limits.states ≤ 32 }
-        ensures { Gives (λ end. Several (StateRecord limits.items limits.codes limits.states end) limits.states) (λ xs. xs) self.old self.new result }
+    // Reads as many records as a type has states into an empty row. The caller gives the rows here and below,
+    // since each is too large to be handed on.
+    fn records(&mut self, limits: Limits, states: &mut StateRow) -> Result<(), Fault>
+        requires few { limits.states ≤ 32 }
+        requires empty { states.old ≡ [] }
+        ensures { Gives (λ end. Several (StateRecord limits.items limits.codes limits.states end) limits.states) (λ _. states.new) self.old self.new result }
     {
-        let mut states = StateRow::empty();
         for _s in 0..limits.states {
             states.push(self.record(limits)?);
         }
-        Ok(states)
+        Ok(())
     }
 
-    // Reads one job type: the number of its states, their records, and whether they hang together.
-    fn job_type(&mut self, sizes: Sizes) -> Result<StateRow, Fault>
-        ensures { Gives (TypePart sizes.items sizes.codes) (λ xs. xs) self.old self.new result }
+    // Reads one job type into an empty row: the number of its states, their records, and whether they hang together.
+    fn job_type(&mut self, sizes: Sizes, states: &mut StateRow) -> Result<(), Fault>
+        requires { states.old ≡ [] }
+        ensures { Gives (TypePart sizes.items sizes.codes) (λ _. states.new) self.old self.new result }
     {
         let count = self.count(32)?;
-        let states = self.records(Limits {
+        let limits = Limits {
             items: sizes.items,
             codes: sizes.codes,
             states: count,
-        })?;
+        };
+        self.records(limits, states)?;
         if let Some(s) = first_stray(states.as_slice()) {
             return Err(Fault::Stray(self.place(0) - 11 * (count as usize - s)));
         }
-        Ok(states)
+        Ok(())
     }
 
-    // Reads the job types into an empty row. The caller gives it, since a row is too large to be handed on.
+    // Reads the job types into an empty row.
     // One function with `records` would take the reader of one part as a closure, for a loop of one line.
     pub(crate) fn job_types(&mut self, sizes: Sizes, types: &mut TypeRow) -> Result<(), Fault>
         requires few { sizes.types ≤ 8 }
@@ -205,7 +208,9 @@ impl<'a> Rest<'a> {
         ensures { Gives (λ end. Several (TypePart sizes.items sizes.codes end) sizes.types) (λ _. types.new) self.old self.new result }
     {
         for _t in 0..sizes.types {
-            types.push(self.job_type(sizes)?);
+            let mut states = StateRow::empty();
+            self.job_type(sizes, &mut states)?;
+            types.push(states);
         }
         Ok(())
     }

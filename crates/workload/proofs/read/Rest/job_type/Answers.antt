@@ -29,30 +29,30 @@ returns-in_err-count c =
     let n = c.in_err-count.ensures.answer in
     (n.0, rw (handed _ _ c.from_residual.ensures.1) (stops _ n.1 refl))
 
-pub returns-in_err-states : goal.returns-in_err-states
-returns-in_err-states c =
+pub returns-in_err-records : goal.returns-in_err-records
+returns-in_err-records c =
     let n = c.in_ok-count.ensures.answer in
-    let r = c.in_err-states.ensures in
+    let r = c.in_err-records.ensures in
     let P = λ (end : ℕ). Several (StateRecord c.args.sizes.items c.args.sizes.codes c.in_ok-count.count end) c.in_ok-count.count in
-    (r.0 ∙ n.0, rw (handed _ _ c.from_residual-in_err-states.ensures.1) (goes _ _ n.1 (stops _ (at_end P n.0 r.1) refl)))
+    (r.0 ∙ n.0, rw (handed _ _ c.from_residual-in_err-records.ensures.1) (goes _ _ n.1 (stops _ (at_end P n.0 r.1) refl)))
 
 pub overflow_sub-result : goal.overflow_sub-result
 overflow_sub-result c =
-    let g = strays _ _ c.in_ok-count.count _ _ c.in_ok-states.states c.as_slice.result.now _ c.in-Some.s c.in_ok-count.ensures.range.1 c.in_ok-states.ensures.1 c.as_slice.ensures c.in-Some.ensures in
+    let g = strays _ _ c.in_ok-count.count _ _ c.records.new.states c.as_slice.result.now _ c.in-Some.s c.in_ok-count.ensures.range.1 c.in_ok-records.ensures.1 c.as_slice.ensures c.in-Some.ensures in
     omega (arith, g.lowest.0)
 
 pub overflow_sub-result-in-Some : goal.overflow_sub-result-in-Some
 overflow_sub-result-in-Some c =
-    let g = strays _ _ c.in_ok-count.count _ _ c.in_ok-states.states c.as_slice.result.now _ c.in-Some.s c.in_ok-count.ensures.range.1 c.in_ok-states.ensures.1 c.as_slice.ensures c.in-Some.ensures in
-    omega (arith, g.lowest.0, c.in_ok-states.ensures.0, c.count.new.self.within)
+    let g = strays _ _ c.in_ok-count.count _ _ c.records.new.states c.as_slice.result.now _ c.in-Some.s c.in_ok-count.ensures.range.1 c.in_ok-records.ensures.1 c.as_slice.ensures c.in-Some.ensures in
+    omega (arith, g.lowest.0, c.in_ok-records.ensures.0, c.count.new.self.within)
 
 pub returns-in-Some : goal.returns-in-Some
 returns-in-Some c =
     let k = c.in_ok-count.count in
-    let xs = c.in_ok-states.states in
+    let xs = c.records.new.states in
     let rest = c.records.new.self in
     let n = c.in_ok-count.ensures.answer in
-    let r = c.in_ok-states.ensures in
+    let r = c.in_ok-records.ensures in
     let g = strays _ _ k _ _ xs c.as_slice.result.now _ c.in-Some.s c.in_ok-count.ensures.range.1 r.1 c.as_slice.ensures c.in-Some.ensures in
     let P = λ (end : ℕ). Several (StateRecord c.args.sizes.items c.args.sizes.codes k end) k in
     let e = r.0 ∙ n.0 in
@@ -61,6 +61,6 @@ returns-in-Some c =
 pub returns : goal.returns
 returns c =
     let n = c.in_ok-count.ensures.answer in
-    let r = c.in_ok-states.ensures in
+    let r = c.in_ok-records.ensures in
     let P = λ (end : ℕ). Several (StateRecord c.args.sizes.items c.args.sizes.codes c.in_ok-count.count end) c.in_ok-count.count in
     (r.0 ∙ n.0, goes _ _ n.1 (goes _ _ (at_end P n.0 r.1) (joined (subst Connected c.as_slice.ensures c.in_default.ensures.1) refl)))

@@ -1,12 +1,13 @@
 -- What is told of the job types of a file.
 use Rattle.std.specs.Prelude.{◌≡◌, ℕ, ◌<◌, List, Bool, false, slice_index_or}
-use Rattle.exports.specs.Told.{CannotRead, done, fault_end, no_room, nothing}
+use Rattle.exports.specs.Told.{done, fault_end, no_room, nothing}
 use Rattle.exports.specs.declared.looks.TypeTold.{TypeTold}
 use Rattle.exports.specs.declared.told.End.{End}
 use Rattle.itemset.specs.Members.{holds}
 use Rattle.itemset.specs.declared.ItemSet.{ItemSet}
 use Rattle.model.specs.Workload.{Local, LocalRoot, Unlockable, Unreachable}
 use Rattle.sets.specs.Items.{ItemsOf}
+use Rattle.workload.specs.Files.{NotRead}
 use Rattle.workload.specs.Numbers.{numbered}
 use Rattle.workload.specs.View.{HasState, view}
 use Rattle.workload.specs.declared.definition.Workload.{Workload}
@@ -18,7 +19,7 @@ use Rattle.writing.specs.Files.{Holds}
 pub data Finds (bs : List ℕ) (Absent P : Workload → Type 0) (Short Same : Type 0) (e : End) : Type 0 where
   there : (w : Workload) → Holds bs w → P w → e ≡ done → Finds bs Absent P Short Same e
   absent : (w : Workload) → Holds bs w → Absent w → Same → e ≡ nothing → Finds bs Absent P Short Same e
-  cannot : (f : Fault) → CannotRead bs f → Same → e ≡ fault_end (numbered f) → Finds bs Absent P Short Same e
+  cannot : (f : Fault) → NotRead bs f → Same → e ≡ fault_end (numbered f) → Finds bs Absent P Short Same e
   wants_room : Short → Same → e ≡ no_room → Finds bs Absent P Short Same e
 
 abbrev pub NoType : ℕ → Workload → Type 0

@@ -6,7 +6,7 @@ use Rattle.workload.specs.declared.definition.Workload.{Workload}
 use Rattle.workload.specs.declared.fault.Fault.{Fault}
 use Rattle.workload.specs.declared.fault.Fault.TheVariants.{Memory}
 use Rattle.workload.specs.declared.file.NoteSpan.{NoteSpan}
-use Rattle.workload.specs.Files.{Filled}
+use Rattle.workload.specs.Files.{Filled, NotRead}
 use Rattle.workload.specs.Numbers.{numbered}
 use Rattle.workload.specs.Reads.{Refused}
 use Rattle.workload.specs.View.{view}
@@ -28,10 +28,6 @@ no_memory = record { number = 255; place = 0 }
 abbrev pub fault_end : Option (ℕ × ℕ) → End
 fault_end (Some p) = record { number = p.0; place = p.1 }
 fault_end None = no_memory
-
--- the file is not read: f is its first fault, or memory is wanting
-abbrev pub CannotRead : List ℕ → Fault → Type 0
-CannotRead bs f = Refused bs f ⊎ f ≡ Memory
 
 -- the file is refused, with f as its first fault, and then Same holds, or memory is wanting
 abbrev pub Fails : List ℕ → Type 0 → Fault → Type 0
@@ -62,4 +58,4 @@ not_told f = record { end = fault_end (numbered f); note_length = 0; items = 0; 
 -- What is told of a file.
 pub data TellsFile (bs : List ℕ) (t : FileTold) : Type 0 where
   holds : (w : Workload) (s : NoteSpan) → Filled bs w s → t ≡ file_told w s → TellsFile bs t
-  cannot : (f : Fault) → CannotRead bs f → t ≡ not_told f → TellsFile bs t
+  cannot : (f : Fault) → NotRead bs f → t ≡ not_told f → TellsFile bs t

@@ -1,8 +1,8 @@
 -- What is told of writing the workload of a file again.
 use Rattle.std.specs.Prelude.{◌≡◌, ℕ, List, Ok, Err, Result}
-use Rattle.exports.specs.Told.{CannotRead, done, fault_end}
+use Rattle.exports.specs.Told.{done, fault_end}
 use Rattle.exports.specs.declared.writes.WriteTold.{WriteTold}
-use Rattle.workload.specs.Files.{file_of}
+use Rattle.workload.specs.Files.{NotRead, file_of}
 use Rattle.workload.specs.Numbers.{numbered}
 use Rattle.workload.specs.declared.definition.Workload.{Workload}
 use Rattle.workload.specs.declared.fault.Fault.{Fault}
@@ -20,5 +20,5 @@ pub data TellsWritten (bs note old new : List ℕ) (t : WriteTold) : Type 0 wher
       : (w : Workload) (r : Result ℕ WriteRefusal) → Holds bs w → Written (file_of w note) note old new r → t ≡ write_told r
       → TellsWritten bs note old new t
   cannot
-      : (f : Fault) → CannotRead bs f → new ≡ old → t ≡ record { end = fault_end (numbered f); refusal = 0; length = 0 }
+      : (f : Fault) → NotRead bs f → new ≡ old → t ≡ record { end = fault_end (numbered f); refusal = 0; length = 0 }
       → TellsWritten bs note old new t

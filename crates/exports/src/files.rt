@@ -2,12 +2,11 @@
 ghost use Rattle.std.specs.Prelude.{◌≡◌};
 ghost use Rattle.exports.specs.Told.{TellsFile, file_told, not_told};
 
-use crate::loading::loaded;
 use crate::told::{End, end_of};
 use std::alloc::Global;
 use workload::definition::Workload;
 use workload::fault::Fault;
-use workload::file::NoteSpan;
+use workload::file::{NoteSpan, load};
 
 // What is told of a file. Where it is read, the place is that of its note; the counts are 0 where it is not.
 #[repr(C)]
@@ -54,7 +53,7 @@ fn told_why(fault: Fault) -> FileTold
 pub extern "C" fn fadzrike_read(heap: Global, file: &[u8]) -> FileTold
     ensures { TellsFile file.now result }
 {
-    match loaded(heap, file) {
+    match load(heap, file) {
         Ok((workload, span)) => told_of(&workload, span),
         Err(fault) => told_why(fault),
     }

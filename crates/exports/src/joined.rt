@@ -3,7 +3,6 @@ ghost use Rattle.std.specs.Prelude.{◌≡◌, map, IfOk, MatchResult};
 ghost use Rattle.exports.specs.Runs.{NoRoom, Ran, RunOf, joined};
 ghost use Rattle.exports.specs.Told.{Ends, Fails};
 
-use crate::loading::loaded;
 use crate::plain::{PlainAnswer, PlainCall, calls};
 use crate::runs::put_outcome;
 use crate::told::{DONE, End, NO_ROOM, end_of};
@@ -16,6 +15,7 @@ use stores::store::{CAPACITY, ShowingStore};
 use table::lists::run;
 use table::rows::Outcome;
 use workload::fault::Fault;
+use workload::file::load;
 
 // The number that each item of a store shows.
 fn numbers_shown<K: Kind, S: ShowingStore<K>>(
@@ -42,7 +42,7 @@ fn run_joined<K: Kind>(
 ) -> Result<Outcome, Fault>
     ensures { MatchResult result (RunOf K.Kind file.now (joined front.old back.old) plain.now) (Fails file.now ((front.new ≡ front.old) × (back.new ≡ back.old))) }
 {
-    let (workload, _span) = loaded(heap, file)?;
+    let (workload, _span) = load(heap, file)?;
     let calls = calls(heap, plain)?;
     let store = JoinedStore::new(RowStore::<K>::new(front), RowStore::<K>::new(back));
     let (table, answers) = run::<K, JoinedStore<RowStore<K>, RowStore<K>>>(

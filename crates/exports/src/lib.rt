@@ -5,7 +5,6 @@
 
 mod files;
 mod joined;
-mod loading;
 mod looks;
 mod plain;
 mod rounds;

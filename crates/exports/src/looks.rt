@@ -2,11 +2,11 @@
 ghost use Rattle.std.specs.Prelude.{◌≡◌, ◌≤◌, ◌<◌, ◌⊎◌, length};
 ghost use Rattle.exports.specs.Looks.{Finds, NoState, NoType, Shows, StateSets, TypeSets};
 
-use crate::loading::loaded;
 use crate::told::{DONE, End, NO_ROOM, NOTHING, end_of};
 use itemset::ItemSet;
 use sets::{local_items, local_root, unlockable, unreachable};
 use std::alloc::Global;
+use workload::file::load;
 
 // What is told of a job type, beside its local lock tree.
 #[repr(C)]
@@ -51,7 +51,7 @@ pub extern "C" fn fadzrike_type(heap: Global, file: &[u8], t: u8, local: &mut [b
     if local.len() < ITEMS {
         return no_type(NO_ROOM);
     }
-    let workload = match loaded(heap, file) {
+    let workload = match load(heap, file) {
         Ok((workload, _span)) => workload,
         Err(fault) => return no_type(end_of(fault)),
     };
@@ -89,7 +89,7 @@ pub extern "C" fn fadzrike_state(
     if never.len() < ITEMS || left.len() < ITEMS {
         return NO_ROOM;
     }
-    let workload = match loaded(heap, file) {
+    let workload = match load(heap, file) {
         Ok((workload, _span)) => workload,
         Err(fault) => return end_of(fault),
     };

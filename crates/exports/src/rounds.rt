@@ -4,7 +4,6 @@ ghost use Rattle.exports.specs.Runs.{LeadsRound, RanRounds, RoundsOf};
 ghost use Rattle.exports.specs.Told.{Ends, Fails};
 ghost use Rattle.stores.specs.Stores.{counted};
 
-use crate::loading::loaded;
 use crate::plain::{PlainAnswer, PlainCall, calls, put_answers};
 use crate::told::{DONE, End, NO_ROOM, end_of};
 use kinds::kind::Kind;
@@ -15,6 +14,7 @@ use stores::store::{ShowingStore, WorkingStore};
 use table::answer::{Answer, Call};
 use table::definition::Table;
 use workload::fault::Fault;
+use workload::file::load;
 
 // Makes the calls, and then so many times again; gives the last answers.
 fn make_rounds<K: Kind, S: WorkingStore<K>>(
@@ -42,7 +42,7 @@ fn run_rounds<K: Kind>(
 ) -> Result<Vec<Answer>, Fault>
     ensures { MatchResult result (λ v. RoundsOf K.Kind file.now (counted row.old) plain.now again v.items) (Fails file.now (row.new ≡ row.old)) }
 {
-    let (workload, _span) = loaded(heap, file)?;
+    let (workload, _span) = load(heap, file)?;
     let calls = calls(heap, plain)?;
     let mut table = Table::new(RowStore::<K>::new(row), workload);
     let answers = make_rounds::<K, RowStore<K>>(&mut table, heap, calls.as_slice(), again);

@@ -5,7 +5,6 @@ ghost use Rattle.exports.specs.Runs.{NoRoom, Ran, RunOf, Tells};
 ghost use Rattle.exports.specs.Told.{Ends, Fails};
 ghost use Rattle.stores.specs.Stores.{counted};
 
-use crate::loading::loaded;
 use crate::plain::{PlainAnswer, PlainCall, PlainSlot, calls, put_answers, put_shown, slots};
 use crate::told::{DONE, End, NO_MEMORY, NO_ROOM, end_of};
 use kinds::kind::Kind;
@@ -15,6 +14,7 @@ use std::alloc::Global;
 use stores::store::CAPACITY;
 use table::rows::{Outcome, run_row};
 use workload::fault::Fault;
+use workload::file::load;
 
 // Makes the calls on a new table over the row and the file's workload.
 fn run_file<K: Kind>(
@@ -25,7 +25,7 @@ fn run_file<K: Kind>(
 ) -> Result<Outcome, Fault>
     ensures { MatchResult result (RunOf K.Kind file.now (counted row.old) plain.now) (Fails file.now (row.new ≡ row.old)) }
 {
-    let (workload, _span) = loaded(heap, file)?;
+    let (workload, _span) = load(heap, file)?;
     let calls = calls(heap, plain)?;
     Ok(run_row::<K>(row, workload, heap, calls.as_slice())?)
 }

@@ -2,9 +2,9 @@
 ghost use Rattle.std.specs.Prelude.{◌≡◌};
 ghost use Rattle.exports.specs.Writes.{TellsWritten, write_told};
 
-use crate::loading::loaded;
 use crate::told::{DONE, End, end_of};
 use std::alloc::Global;
+use workload::file::load;
 use writing::file::write;
 use writing::refusal::WriteRefusal;
 
@@ -45,7 +45,7 @@ pub extern "C" fn fadzrike_write(
 ) -> WriteTold
     ensures { TellsWritten file.now note.now buffer.old buffer.new result }
 {
-    match loaded(heap, file) {
+    match load(heap, file) {
         Ok((workload, _span)) => told_of(write(&workload, note, buffer)),
         Err(fault) => WriteTold {
             end: end_of(fault),

@@ -139,7 +139,7 @@ pub fn describe(heap: Global, workload: &Workload, note: usize) -> Result<String
 mod tests {
     use super::*;
     use std::test::Fail;
-    use workload::file::read;
+    use workload::file::load;
 
     // A file of a chain of 64 items, whose root is the last: one type, which works at the root and then at the leaf, and no note.
     fn chain(heap: Global) -> Result<Vec<u8>, AllocError> {
@@ -179,8 +179,7 @@ mod tests {
     #[test]
     fn a_chain_is_told_down_to_its_leaf(rt: HostRuntime) -> Result<(), Fail> {
         let heap = rt.alloc();
-        let mut workload = Workload::start(heap)?;
-        assert!(rt; read(heap, chain(heap)?.as_slice(), &mut workload).is_ok());
+        let (workload, _span) = load(heap, chain(heap)?.as_slice())?;
         let mut expected = String::new(heap);
         expected.push_str("items 64, codes 1, types 1, note of 0 bytes\n")?;
         expected.push_str("lock tree, each item below its parent:\n")?;

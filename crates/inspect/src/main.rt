@@ -11,8 +11,7 @@ use crate::refusal::refuse;
 use anyhow::anyhow;
 use std::alloc::{AllocError, Global};
 use std::{env, fs};
-use workload::definition::Workload;
-use workload::file::read;
+use workload::file::load;
 
 // What the arguments ask for.
 #[derive(Drop)]
@@ -64,9 +63,8 @@ fn bytes(rt: &HostRuntime, path: &str) -> Vec<u8> {
 
 // Tells what a file holds.
 fn describe_file(rt: &HostRuntime, file: &[u8]) -> anyhow::Result<()> {
-    let mut workload = Workload::start(rt.alloc())?;
-    match read(rt.alloc(), file, &mut workload) {
-        Ok(span) => {
+    match load(rt.alloc(), file) {
+        Ok((workload, span)) => {
             let text = describe(rt.alloc(), &workload, span.length)?;
             print!(rt; "{text}")?;
             Ok(())

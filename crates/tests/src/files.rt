@@ -3,7 +3,7 @@ use rules::state::State;
 use std::alloc::{AllocError, Global};
 use workload::definition::Workload;
 use workload::fault::Fault;
-use workload::file::read;
+use workload::file::load;
 
 // One item, four codes, one type of one state (item 0, code 1, operand 5, terminal) and no note.
 pub const SMALL: &[u8] = b"TLW\0\x01\x01\x01\x04\xff\x01\0\x01\0\0\0\x05\0\0\0\0\0\0\0";
@@ -66,8 +66,7 @@ pub fn file(heap: Global, parts: Parts<'_>) -> Result<Vec<u8>, AllocError> {
 
 // The workload that a file holds.
 pub fn loaded(heap: Global, file: &[u8]) -> Result<Workload, Fault> {
-    let mut workload = Workload::start(heap)?;
-    let _span = read(heap, file, &mut workload)?;
+    let (workload, _span) = load(heap, file)?;
     Ok(workload)
 }
 

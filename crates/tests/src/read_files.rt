@@ -5,7 +5,7 @@ use std::alloc::{AllocError, Global};
 use std::test::Fail;
 use workload::definition::Workload;
 use workload::fault::Fault;
-use workload::file::{NoteSpan, note, read};
+use workload::file::{NoteSpan, load, note, read};
 
 // The states of a type that each lead to the next, over a chain of items.
 fn chained(heap: Global, items: u8, states: u8) -> Result<Vec<State>, AllocError> {
@@ -88,6 +88,28 @@ fn small_file_is_read(rt: HostRuntime) -> Result<(), Fail> {
     assert_eq!(rt; state.code, 1);
     assert_eq!(rt; state.operand, 5);
     assert_eq!(rt; state.arc_count, 0);
+    Ok(())
+}
+
+// Two items, three codes, one type of one state (item 1, code 2, operand -2, terminal), and a note of two bytes.
+#[test]
+fn a_file_is_loaded_with_no_workload_before(rt: HostRuntime) -> Result<(), Fail> {
+    let file = b"TLW\0\x01\x02\x01\x03\xff\0\x01\x01\x02\xff\xff\xff\xfe\0\0\0\0\0\0\x02hi";
+    let (workload, span) = load(rt.alloc(), file)?;
+    assert_eq!(rt;
+        span,
+        NoteSpan {
+            place: 24,
+            length: 2,
+        }
+    );
+    assert_eq!(rt; workload.item_count(), 2);
+    assert_eq!(rt; workload.code_count(), 3);
+    assert_eq!(rt; workload.parent(1), Some(0));
+    let state = workload.state(0, 0).ok_or("no state")?;
+    assert_eq!(rt; state.item, 1);
+    assert_eq!(rt; state.code, 2);
+    assert_eq!(rt; state.operand, -2);
     Ok(())
 }
 

@@ -53,9 +53,9 @@ fn survey<'a>(file: &'a [u8], types: &mut TypeRow) -> Result<FileParts<'a>, Faul
     })
 }
 
-// Reads a file into a workload of its own.
+// Reads a file into a workload of its own, for a caller who has none yet, and answers where its note stands.
 // All tests come before memory is asked for, so that want of memory tells of a file without a fault.
-fn load(heap: Global, file: &[u8]) -> Result<(Workload, NoteSpan), Fault>
+pub fn load(heap: Global, file: &[u8]) -> Result<(Workload, NoteSpan), Fault>
     ensures { MatchResult result (λ p. Filled file.now p.0 p.1) (λ f. NotRead file.now f) }
 {
     let mut types = TypeRow::empty();

@@ -1,5 +1,5 @@
 -- All that the program prints.
-use Rattle.std.specs.Prelude.{◌≡◌, ℕ, ◌≤◌, ◌⊎◌, List, [], ◌∷◌, ◌++◌, filter_map, map, replicate, zip, length, Some, ℤ, pos}
+use Rattle.std.specs.Prelude.{◌≡◌, ℕ, ◌≤◌, List, [], ◌∷◌, ◌++◌, filter_map, map, replicate, zip, length, Some, ℤ, pos}
 use Rattle.kinds.specs.declared.kind.Kind as kinds
 use Rattle.table.specs.Answers.{EndsWell}
 use Rattle.table.specs.declared.answer.Answer.{Answer}

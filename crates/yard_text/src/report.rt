@@ -11,7 +11,7 @@ use table::answer::{Answer, Call};
 use table::rows::{Outcome, run_row};
 use workload::definition::Workload;
 use workload::fault::Fault;
-use workload::file::read;
+use workload::file::load;
 
 // The line of a refused file. Want of memory is no fault of the file, and has no line.
 fn refused(heap: Global, fault: Fault) -> Result<String, AllocError>
@@ -83,9 +83,8 @@ fn ran(heap: Global, workload: Workload, input: &[u8]) -> Result<String, AllocEr
 pub fn report(heap: Global, file: &[u8], input: &[u8]) -> Result<String, AllocError>
     ensures { IfOk result (λ s. Prints ⟦<Tally as Kind>⟧ file.now input.now (string_bytes s)) }
 {
-    let mut workload = Workload::start(heap)?;
-    match read(heap, file, &mut workload) {
-        Ok(_) => ran(heap, workload, input),
+    match load(heap, file) {
+        Ok((workload, _span)) => ran(heap, workload, input),
         Err(fault) => refused(heap, fault),
     }
 }

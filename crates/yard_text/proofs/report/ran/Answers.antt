@@ -7,7 +7,7 @@ use Rattle.table.specs.Answers.{EndsWell}
 use Rattle.table.specs.declared.answer.Call.{Call}
 use Rattle.table.specs.declared.rows.Outcome.{Outcome}
 use Rattle.workload.specs.declared.definition.Workload.{Workload}
-use Rattle.yard_text.specs.Report.{RunsTo, three_lines, zeros}
+use Rattle.yard_text.specs.Report.{three_lines, zeros}
 use Rattle.yard_text.proofs.report.ran.Goals as goal
 
 -- the same outcome, over equal values and equal calls

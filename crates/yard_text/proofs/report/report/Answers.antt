@@ -20,9 +20,9 @@ pub returns-in-Ok : goal.returns-in-Ok
 returns-in-Ok c =
     let filled = c.in-Ok.ensures in
     IfOk-weaker c.ran.result _ (λ s. Prints _ c.args.file.now c.args.input.now (string_bytes s))
-    (λ s r. runs c.read.new.workload filled.0 filled.1 filled.2 r) c.ran.ensures
+    (λ s r. runs c.in-Ok.workload filled.0 filled.1 filled.2 r) c.ran.ensures
 
 pub returns-in-Err : goal.returns-in-Err
 returns-in-Err c =
     IfOk-weaker c.refused.result _ (λ s. Prints _ c.args.file.now c.args.input.now (string_bytes s))
-    (λ s l. told _ c.args.file.now c.args.input.now (string_bytes s) c.in-Err.fault c.in-Err.ensures.1 l) c.refused.ensures
+    (λ s l. told _ c.args.file.now c.args.input.now (string_bytes s) c.in-Err.fault c.in-Err.ensures l) c.refused.ensures

@@ -1,18 +1,19 @@
 -- The parts of a plan are what the definitions say of its job type.
-use Rattle.std.proofs.Common.{◌≡◌, ℕ, ◌<◌, ◌≤◌, ◌⊎◌, true, false, List, [], length, get_or, Decides, sym, refl, ◌∙◌, subst, inl, inr, arith}
-use Rattle.std.proofs.lemmas.Bool.{both_ways, cases_Bool, cases_eq}
+use Rattle.std.proofs.Common.{◌≡◌, ℕ, ◌<◌, ◌≤◌, ◌⊎◌, true, List, [], length, get_or, Decides, sym, refl, ap, ◌∙◌, subst, inl, inr, arith}
+use Rattle.std.proofs.lemmas.Bool.{cases_eq}
 use Rattle.model.specs.Workload as model
-use Rattle.model.specs.Workload.{Workload, Above, self, Way, stay, onward, WellFormed, Unreachable, Unlockable, Named, Common, LocalRoot, Local, LocalChild, LocalLeaf}
-use Rattle.model.proofs.Tree.{above_chain, above_item, above_same, above_trans, first_named, local_item, local_root, named_item, root_item, root_one}
+use Rattle.model.specs.Workload.{Workload, Above, self, over, Way, stay, onward, WellFormed, Unreachable, Unlockable, Named, Common, LocalRoot, Local, LocalChild, LocalLeaf}
+use Rattle.model.proofs.Tree.{above_chain, above_depth, above_down, above_item, above_same, above_trans, depth, depth_up, first_named, local_item, local_root, named_item, root_item, root_one}
 use Rattle.model.proofs.Ways.{way_state}
 use Rattle.itemset.specs.declared.ItemSet.{ItemSet}
 use Rattle.itemset.specs.Members.{holds, nothing}
+use Rattle.rules.specs.declared.naming.Naming.{Naming}
 use Rattle.rules.specs.declared.plan.Plan.{Plan}
 use Rattle.rules.specs.declared.state.State.{State}
 use Rattle.rules.specs.Plans.{HasType, Planned}
-use Rattle.rules.specs.Reach.{HeldBy, Joined, Reaches, here, step}
+use Rattle.rules.specs.Reach.{Joined, Reaches, here, step}
 use Rattle.rules.specs.Rules.{Arc, Parent, nowhere}
-use Rattle.rules.specs.Sets.{ChildIn, Deepest, Exactly, LeftBehind, Names, NamesAlong, item_at}
+use Rattle.rules.specs.Sets.{ChildIn, Deepest, Exactly, LeftBehind, NamingOf, NamesAlong, item_at}
 use Rattle.rules.specs.View.{state_at, workload_of}
 use Rattle.rules.proofs.Formed.{top_marked}
 use Rattle.rules.proofs.Gathering.{reaches_map}
@@ -24,41 +25,20 @@ pub from_state : {W : Workload} {t r m : ℕ} → Way W t r m → m < W.states t
 from_state (stay x) j = j
 from_state (onward x y z e w) j = e.0
 
--- the rows of the tree, and the items that are or lie above every item that the states name
-pub record Rooting (parents : List ℕ) (states : List State) (up : List ItemSet) (shared : ItemSet) : Type 0 where
+-- the rows of the tree, and what the states name over them
+pub record Rooting (parents : List ℕ) (states : List State) (up : List ItemSet) (n : Naming) : Type 0 where
   pub few : length parents ≤ 64
   pub above : (i : ℕ) → i < 64 → Exactly (get_or up i nothing) (Reaches (Parent parents) i)
-  pub common : Exactly shared (λ a. (a < 64) × ((s : ℕ) → s < length states → Joined up (item_at states s) a))
+  pub names : NamingOf parents up states n
 
--- each state names an item below 64, and the set holds the items that they name
-pub record Naming (states : List State) (named : ItemSet) : Type 0 where
-  pub items : (s : ℕ) → s < length states → item_at states s < 64
-  pub are : Exactly named (λ d. (s : ℕ) × (s < length states) × (item_at states s ≡ d))
-
--- what states that name items below 64 name
-module _ (states : List State) (items : (s : ℕ) → s < length states → item_at states s < 64) where
-  pub naming : (named : ItemSet) → Exactly named (λ d. (d < 64) × ((s : ℕ) × Names states s d)) → Naming states named
-  naming named h =
-      record {
-        items = items;
-        are = λ d. (λ e. let q = ((h d).0 e).1 in (q.0, q.1.0, q.1.1), λ q. (h d).1 (let i = items q.0 q.1 in omega (arith, q.2), (q.0, (q.1, q.2))));
-      }
-
-  pub named_along : {E F : ℕ → ℕ → Type 0} → ((a b : ℕ) → E a b → F a b) → ((a b : ℕ) → F a b → E a b)
-      → (s : ℕ) (x : ItemSet) → Exactly x (λ d. (d < 64) × NamesAlong E states s d) → Exactly x (NamesAlong F states s)
-  named_along on back s x h d = (
-    λ e. let q = ((h d).0 e).1 in (q.0, reaches_map on q.1, q.2),
-    λ q. (h d).1 (let i = items q.0 q.2.0 in omega (arith, q.2.1), (q.0, reaches_map back q.1, q.2)),
-  )
-
-module _ (states : List State) (named : ItemSet) (N : Naming states named) (up : List ItemSet) where
-  pub common_named
-      : (shared : ItemSet) → Exactly shared (λ a. (a < 64) × ((d : ℕ) → d < 64 → holds named d ≡ true → Joined up d a))
-      → Exactly shared (λ a. (a < 64) × ((s : ℕ) → s < length states → Joined up (item_at states s) a))
-  common_named shared h a = (
-    λ e. let q = (h a).0 e in (q.0, λ s l. q.1 (item_at states s) (N.items s l) ((N.are (item_at states s)).1 (s, l, refl))),
-    λ q. (h a).1 (q.0, λ d l e. let n = (N.are d).0 e in subst (λ (x : ℕ). Joined up x a) n.2 (q.1 n.0 n.1)),
-  )
+-- states that name items below 64 name such items along ways too
+pub named_along : {E F : ℕ → ℕ → Type 0} (states : List State) → ((s : ℕ) → s < length states → item_at states s < 64)
+    → ((a b : ℕ) → E a b → F a b) → ((a b : ℕ) → F a b → E a b)
+    → (s : ℕ) (x : ItemSet) → Exactly x (λ d. (d < 64) × NamesAlong E states s d) → Exactly x (NamesAlong F states s)
+named_along states items on back s x h d = (
+  λ e. let q = ((h d).0 e).1 in (q.0, reaches_map on q.1, q.2),
+  λ q. (h d).1 (let i = items q.0 q.2.0 in omega (arith, q.2.1), (q.0, reaches_map back q.1, q.2)),
+)
 
 -- what a row lacks of a set
 pub lacking_of
@@ -72,16 +52,20 @@ pub record Going (states : List State) (back ahead behind : List ItemSet) : Type
   pub ahead_are : (s : ℕ) → s < 32 → Exactly (get_or ahead s nothing) (NamesAlong (Arc states) states s)
   pub behind_are : (m : ℕ) → m < 32 → Exactly (get_or behind m nothing) (NamesAlong (λ a b. Arc states b a) states m)
 
+-- d is named or lies above what is
+abbrev pub Over : Naming → ℕ → Type 0
+Over n d = (holds n.named d ≡ true) ⊎ (holds n.above d ≡ true)
+
 -- how the parts of a plan were made
 pub record Made (parents : List ℕ) (states : List State) (p : Plan) : Type 0 where
   pub up : List ItemSet
-  pub shared : ItemSet
-  pub rooting : Rooting parents states up shared
-  pub deepest : Deepest up shared p.root
-  pub local_is : Exactly p.local (λ d. (d ≡ p.root) ⊎ (HeldBy up p.named d × (holds shared d ≡ true → ⊥)))
+  pub naming : Naming
+  pub rooting : Rooting parents states up naming
+  pub deepest : Deepest up naming.common p.root
+  pub local_is : Exactly p.local (λ d. (d ≡ p.root) ⊎ (Over naming d × (holds naming.common d ≡ true → ⊥)))
   pub children_are : (d : ℕ) → d < 64 → Exactly (get_or p.children d nothing) (ChildIn parents p.local d)
-  pub leaves_are : Exactly p.leaves (λ d. (d < 64) × (holds p.local d ≡ true) × ((c : ℕ) → holds (get_or p.children d nothing) c ≡ false))
-  pub named_is : Exactly p.named (λ d. (s : ℕ) × (s < length states) × (item_at states s ≡ d))
+  pub leaves_are : Exactly p.leaves (λ d. (holds naming.named d ≡ true) × (holds naming.above d ≡ true → ⊥))
+  pub named_is : p.named ≡ naming.named
   pub back : List ItemSet
   pub ahead : List ItemSet
   pub behind : List ItemSet
@@ -94,7 +78,14 @@ module _ (parents : List ℕ) (codes : ℕ) (types : List (List State)) (t : ℕ
   abbrev W : Workload
   W = workload_of parents codes types
 
-  module _ (up : List ItemSet) (shared : ItemSet) (R : Rooting parents (get_or types t []) up shared) where
+  -- a parent lies above its child
+  right_above : (c d : ℕ) → ¬ (c ≡ W.top) → W.up c ≡ d → Above W d c
+  right_above c d k e = over c k (subst (λ (x : ℕ). Above W d x) (sym e) self)
+
+  module _ (up : List ItemSet) (n : Naming) (R : Rooting parents (get_or types t []) up n) where
+    N : NamingOf parents up (get_or types t []) n
+    N = R.names
+
     Up : (a d : ℕ) → d < length parents → Decides (holds (get_or up d nothing) a) (Above W a d)
     Up a d h =
         let u = R.above d (omega (arith, R.few)) a in (
@@ -103,68 +94,122 @@ module _ (parents : List ℕ) (codes : ℕ) (types : List (List State)) (t : ℕ
         )
 
     -- the row of the item that the state s names
-    Over : (a s : ℕ) → s < length (get_or types t []) → Decides (holds (get_or up (item_at (get_or types t []) s) nothing) a) (Above W a (state_at types t s).item)
-    Over a s h = Up a (state_at types t s).item (F.names_item t s ht h)
+    Row : (a s : ℕ) → s < length (get_or types t []) → Decides (holds (get_or up (item_at (get_or types t []) s) nothing) a) (Above W a (state_at types t s).item)
+    Row a s h = Up a (state_at types t s).item (F.names_item t s ht h)
 
-    common_to : (a : ℕ) → holds shared a ≡ true → Common W t a
-    common_to a h d n = subst (λ (x : ℕ). Above W a x) n.2 ((Over a n.0 n.1).0 (((R.common a).0 h).1 n.0 n.1))
+    common_to : (a : ℕ) → holds n.common a ≡ true → Common W t a
+    common_to a h d i = subst (λ (x : ℕ). Above W a x) i.2 ((Row a i.0 i.1).0 (((N.common a).0 h).1 i.0 i.1))
 
     common_item : (a : ℕ) → Common W t a → a < length parents
     common_item a f =
         let z = F.first_state t ht in
         above_item W F (f (state_at types t 0).item (0, z, refl)) (F.names_item t 0 ht z)
 
-    common_from : (a : ℕ) → Common W t a → holds shared a ≡ true
+    common_from : (a : ℕ) → Common W t a → holds n.common a ≡ true
     common_from a f =
         let i = common_item a f in
-        (R.common a).1 (omega (arith, R.few), λ s h. (Over a s h).1 (f (state_at types t s).item (s, h, refl)))
+        (N.common a).1 (omega (arith, R.few), λ s h. (Row a s h).1 (f (state_at types t s).item (s, h, refl)))
 
-    is_root : (r : ℕ) → Deepest up shared r → LocalRoot W t r
+    is_root : (r : ℕ) → Deepest up n.common r → LocalRoot W t r
     is_root r h =
         let c = common_to r h.inside in
         record { common = c; deepest = λ a f. (Up a r (common_item r c)).0 (h.below_all a (common_from a f)) }
 
     -- there is one
-    pub has_deepest : ((a : ℕ) → a < 64 → Deepest up shared a → ⊥) → ⊥
+    pub has_deepest : ((a : ℕ) → a < 64 → Deepest up n.common a → ⊥) → ⊥
     has_deepest never =
         let r = local_root W F t ht in
         let h : r.0 < length parents = root_item W F t ht r.1 in
         never r.0 (omega (arith, R.few))
         (record { inside = common_from r.0 r.1.common; below_all = λ b e. (Up b r.0 h).1 (r.1.deepest b (common_to b e)) })
 
-    module _ (root : ℕ) (the_root : LocalRoot W t root) (named : ItemSet) (names : Exactly named (Named W t)) (local : ItemSet)
-        (locals : Exactly local (λ d. (d ≡ root) ⊎ (HeldBy up named d × (holds shared d ≡ true → ⊥)))) where
+    -- what is named, or lies above what is, is a named item or lies above one
+    over_named : (d : ℕ) → Over n d → (m : ℕ) × Named W t m × Above W d m
+    over_named d (inl h) = (d, (N.named d).0 h, self)
+    over_named d (inr h) = let q = (N.above d).0 h in (item_at (get_or types t []) q.0, (q.0, q.1, refl), (Row d q.0 q.1).0 q.3)
+
+    -- what lies above a named item, and is another, is in the set of such
+    above_from : (d m : ℕ) → Named W t m → Above W d m → ¬ (m ≡ d) → holds n.above d ≡ true
+    above_from d m i a f = (N.above d).1 (i.0, i.1, λ e. f (sym i.2 ∙ e), (Row d i.0 i.1).1 (subst (λ (x : ℕ). Above W d x) (sym i.2) a))
+
+    over_from : (d m : ℕ) → Named W t m → Above W d m → Over n d
+    over_from d m i a = elim (cases_eq m d) [
+      | inl e ↦ inl ((N.named d).1 (subst (Named W t) e i))
+      | inr f ↦ inr (above_from d m i a f)
+    ]
+
+    module _ (root : ℕ) (the_root : LocalRoot W t root) where
       -- an item between the root and a named one
-      between : (d n : ℕ) → Named W t n → Above W root d → Above W d n → Local W t d
-      between d n i b a = record { root = root; is_root = the_root; below_root = b; named = n; is_named = i; above_named = a }
+      between : (d m : ℕ) → Named W t m → Above W root d → Above W d m → Local W t d
+      between d m i b a = record { root = root; is_root = the_root; below_root = b; named = m; is_named = i; above_named = a }
 
       root_in : Local W t root
       root_in = let i = first_named W F t ht in between root (W.item t 0) i self (the_root.common (W.item t 0) i)
 
       -- a way up meets the root, and what it passes after that is common
-      passed : (d n : ℕ) → Named W t n → Above W d n → (holds shared d ≡ true → ⊥) → Local W t d
-      passed d n i a low = elim (above_chain (the_root.common n i) a) [
-        | inl b ↦ between d n i b a
+      passed : (d m : ℕ) → Named W t m → Above W d m → (holds n.common d ≡ true → ⊥) → Local W t d
+      passed d m i a low = elim (above_chain (the_root.common m i) a) [
+        | inl b ↦ between d m i b a
         | inr b ↦ absurd (low (common_from d (λ m k. above_trans b (the_root.common m k))))
       ]
 
-      is_local : Exactly local (Local W t)
-      is_local d = (to, from)
+      below_the_root : (d : ℕ) → Local W t d → Above W root d
+      below_the_root d h = subst (λ (x : ℕ). Above W x d) (root_one W F t ht h.is_root the_root) h.below_root
+
+      is_local : (local : ItemSet) → Exactly local (λ d. (d ≡ root) ⊎ (Over n d × (holds n.common d ≡ true → ⊥))) → Exactly local (Local W t)
+      is_local local locals d = (to, from)
         where
           to : holds local d ≡ true → Local W t d
           to h = elim ((locals d).0 h) [
             | inl e ↦ subst (Local W t) (sym e) root_in
-            | inr q ↦ (let i = (names q.0.0).0 q.0.1 in passed d q.0.0 i ((Up d q.0.0 (named_item W F t ht i)).0 q.0.2) q.1)
+            | inr q ↦ (let o = over_named d q.0 in passed d o.0 o.1 o.2 q.1)
           ]
 
           from : Local W t d → holds local d ≡ true
           from h = (locals d).1 (elim (cases_eq d root) [
             | inl e ↦ inl e
-            | inr ne ↦ (let b = subst (λ (x : ℕ). Above W x d) (root_one W F t ht h.is_root the_root) h.below_root in inr (
-              (h.named, (names h.named).1 h.is_named, (Up d h.named (named_item W F t ht h.is_named)).1 h.above_named),
-              λ e. ne (above_same W F (the_root.deepest d (common_to d e)) b (root_item W F t ht the_root)),
-            ))
+            | inr ne ↦ inr (
+              over_from d h.named h.is_named h.above_named,
+              λ e. ne (above_same W F (the_root.deepest d (common_to d e)) (below_the_root d h) (root_item W F t ht the_root)),
+            )
           ])
+
+      -- an item above another that is named has a child on the way down to it
+      has_child : (d m : ℕ) → Local W t d → Named W t m → Above W d m → ¬ (d ≡ m) → (c : ℕ) × LocalChild W t d c
+      has_child d m h i a f =
+          let c = above_down a f in
+          let b = above_trans (below_the_root d h) (right_above c.0 d c.3 c.1) in
+          (c.0, record { inside = between c.0 m i b c.2; parent = h; not_top = c.3; right_below = c.1 })
+
+      -- a child lies above a named item, which is not its parent
+      above_child : (d c : ℕ) → LocalChild W t d c → holds n.above d ≡ true
+      above_child d c k =
+          let m = k.inside.named in
+          let i = k.inside.is_named in
+          let a = k.inside.above_named in
+          let low = depth_up W F c (local_item W F t ht k.inside) k.not_top in
+          above_from d m i (above_trans (right_above c d k.not_top k.right_below) a)
+          (λ e. let j = above_depth W F a (named_item W F t ht i) in let p = k.right_below in absurd (omega (arith, ap (depth W F) e, ap (depth W F) p)))
+
+      is_leaf : (leaves : ItemSet) → Exactly leaves (λ d. (holds n.named d ≡ true) × (holds n.above d ≡ true → ⊥)) → Exactly leaves (LocalLeaf W t)
+      is_leaf leaves l d = (to, from)
+        where
+          to : holds leaves d ≡ true → LocalLeaf W t d
+          to e =
+              let q = (l d).0 e in
+              let i = (N.named d).0 q.0 in
+              record { inside = between d d i (the_root.common d i) self; childless = λ c k. q.1 (above_child d c k) }
+
+          from : LocalLeaf W t d → holds leaves d ≡ true
+          from h =
+              let lowest = λ (m : ℕ) (i : Named W t m) (a : Above W d m) (f : ¬ (d ≡ m)). let c = has_child d m h.inside i a f in h.childless c.0 c.1 in
+              (l d).1 (
+                elim (cases_eq d h.inside.named) [
+                  | inl e ↦ (N.named d).1 (subst (Named W t) (sym e) h.inside.is_named)
+                  | inr f ↦ absurd (lowest h.inside.named h.inside.is_named h.inside.above_named f)
+                ],
+                λ e. let q = (N.above d).0 e in lowest (item_at (get_or types t []) q.0) (q.0, q.1, refl) ((Row d q.0 q.1).0 q.3) (λ p. q.2 (sym p)),
+              )
 
   module _ (few : length parents ≤ 64) (local : ItemSet) (locals : Exactly local (Local W t)) (children : List ItemSet)
       (all : (d : ℕ) → d < 64 → Exactly (get_or children d nothing) (ChildIn parents local d)) where
@@ -186,26 +231,6 @@ module _ (parents : List ℕ) (codes : ℕ) (types : List (List State)) (t : ℕ
                 below = (locals c).1 q.inside;
               }),
         )
-
-    is_leaf : (leaves : ItemSet)
-        → Exactly leaves (λ d. (d < 64) × (holds local d ≡ true) × ((c : ℕ) → holds (get_or children d nothing) c ≡ false))
-        → Exactly leaves (LocalLeaf W t)
-    is_leaf leaves l d = (to, from)
-      where
-        to : holds leaves d ≡ true → LocalLeaf W t d
-        to e =
-            let q = (l d).0 e in
-            let h = (locals d).0 q.1 in
-            record { inside = h; childless = λ c k. both_ways (holds (get_or children d nothing) c) (q.2 c) ((is_child d (local_item W F t ht h) c).1 k) }
-
-        from : LocalLeaf W t d → holds leaves d ≡ true
-        from h =
-            let k : d < length parents = local_item W F t ht h.inside in
-            (l d).1 (
-              omega arith,
-              (locals d).1 h.inside,
-              λ c. elim (cases_Bool (holds (get_or children d nothing) c)) [ inl e ↦ absurd (h.childless c ((is_child d k c).0 e)) | inr e ↦ e ],
-            )
 
   module _ (back ahead behind : List ItemSet) (G : Going (get_or types t []) back ahead behind) where
     leads : (s m : ℕ) → model.Arc W t s m → m < length (get_or types t [])
@@ -273,33 +298,27 @@ module _ (parents : List ℕ) (codes : ℕ) (types : List (List State)) (t : ℕ
   planned p M =
       let R = M.rooting in
       let G = M.going in
-      let root = is_root M.up M.shared R p.root M.deepest in
-      let locals = is_local M.up M.shared R p.root root p.named M.named_is p.local M.local_is in
+      let root = is_root M.up M.naming R p.root M.deepest in
+      let locals = is_local M.up M.naming R p.root root p.local M.local_is in
       let are = is_unreachable M.back M.ahead M.behind G p.unreachable M.unreachable_are in
       record {
         root = root;
         local = locals;
-        named = M.named_is;
-        leaves = is_leaf R.few p.local locals p.children M.children_are p.leaves M.leaves_are;
+        named = subst (λ (x : ItemSet). Exactly x (Named W t)) (sym M.named_is) R.names.named;
+        leaves = is_leaf M.up M.naming R p.root root p.leaves M.leaves_are;
         children = is_child R.few p.local locals p.children M.children_are;
         unreachable = are;
         unlockable = is_unlockable M.back M.ahead M.behind G p.unreachable M.unreachable_are p.unlockable M.unlockable_are;
       }
 
--- the plan of a type with these states in a workload over this tree, where it was made of rows that are the same
-pub planned_for
-    : (parents qs : List ℕ) (states xs : List State) (p : Plan) → qs ≡ parents → xs ≡ states → Made qs xs p
-    → (codes t : ℕ) (types : List (List State)) → HasType parents codes types t states → Planned (workload_of parents codes types) t p
-planned_for parents qs states xs p e f M codes t types H =
-    planned parents codes types t H.formed H.is_type
-    (subst (λ (zs : List State). (s : ℕ) → s < length zs → length (get_or zs s nowhere).arcs ≡ 4) (sym H.its_states) H.four) p
-    (subst (λ (zs : List State). Made parents zs p) (f ∙ sym H.its_states) (subst (λ (ps : List ℕ). Made ps xs p) e M))
+module _ (parents : List ℕ) (states : List State) (codes t : ℕ) (types : List (List State)) (H : HasType parents codes types t states) where
+  its_four : (s : ℕ) → s < length (get_or types t []) → length (state_at types t s).arcs ≡ 4
+  its_four = subst (λ (zs : List State). (s : ℕ) → s < length zs → length (get_or zs s nowhere).arcs ≡ 4) (sym H.its_states) H.four
 
--- and where no item is deepest there is no such workload
-pub none_for
-    : (parents qs : List ℕ) (states xs : List State) (up : List ItemSet) (shared : ItemSet) → qs ≡ parents → xs ≡ states → Rooting qs xs up shared
-    → ((a : ℕ) → a < 64 → Deepest up shared a → ⊥) → (codes t : ℕ) (types : List (List State)) → HasType parents codes types t states → ⊥
-none_for parents qs states xs up shared e f R never codes t types H =
-    has_deepest parents codes types t H.formed H.is_type
-    (subst (λ (zs : List State). (s : ℕ) → s < length zs → length (get_or zs s nowhere).arcs ≡ 4) (sym H.its_states) H.four) up shared
-    (subst (λ (zs : List State). Rooting parents zs up shared) (f ∙ sym H.its_states) (subst (λ (ps : List ℕ). Rooting ps xs up shared) e R)) never
+  -- the plan of a type with these states in a workload over this tree, where it was made of states that are the same
+  pub planned_for : (xs : List State) (p : Plan) → xs ≡ states → Made parents xs p → Planned (workload_of parents codes types) t p
+  planned_for xs p e M = planned parents codes types t H.formed H.is_type its_four p (subst (λ (zs : List State). Made parents zs p) (e ∙ sym H.its_states) M)
+
+  -- and where no item is deepest there is no such workload
+  pub none_for : (up : List ItemSet) (n : Naming) → Rooting parents states up n → ((a : ℕ) → a < 64 → Deepest up n.common a → ⊥) → ⊥
+  none_for up n R = has_deepest parents codes types t H.formed H.is_type its_four up n (subst (λ (zs : List State). Rooting parents zs up n) (sym H.its_states) R)

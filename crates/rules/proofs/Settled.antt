@@ -38,9 +38,6 @@ module _ (W : Workload) (F : WellFormed W) (t : ℕ) (ht : t < W.types) (p : Pla
       }
 
 module _ (W : Workload) (plans : List Plan) (k : ∥ Kept W plans ∥₁) where
-  pub kept_long : length plans ≡ W.types
-  kept_long = ∥∥₁_elim k (ℕ_set _ _) (λ q. q.long)
-
   pub kept_each : WellFormed W → (t : ℕ) → t < W.types → Planned W t (get_or plans t no_plan)
   kept_each F t i = settled W F t i (get_or plans t no_plan) (∥∥₁_map k (λ q. q.each t i))
 

@@ -1,7 +1,8 @@
 -- What sets and rows of sets say of the items and states of a job type.
-use Rattle.std.specs.Prelude.{◌≡◌, ℕ, ◌<◌, true, List, length, Decides, slice_index_or}
+use Rattle.std.specs.Prelude.{◌≡◌, ◌≢◌, ℕ, ◌<◌, true, List, length, Decides, slice_index_or}
 use Rattle.itemset.specs.declared.ItemSet.{ItemSet}
 use Rattle.itemset.specs.Members.{holds, nothing}
+use Rattle.rules.specs.declared.naming.Naming.{Naming}
 use Rattle.rules.specs.declared.state.State.{State}
 use Rattle.rules.specs.Reach.{Joined, Reaches}
 use Rattle.rules.specs.Rules.{nowhere}
@@ -25,6 +26,15 @@ Names states s d = (s < length states) × (item_at states s ≡ d)
 -- a state to which a way along the relation leads from s names d
 abbrev pub NamesAlong : (ℕ → ℕ → Type 0) → List State → ℕ → ℕ → Type 0
 NamesAlong E states s d = (r : ℕ) × Reaches E s r × Names states r d
+
+-- n is what the states name, each an item of the tree, where the row of an item has itself and the items above it
+pub record NamingOf (parents : List ℕ) (rows : List ItemSet) (states : List State) (n : Naming) : Type 0 where
+  pub in_tree : (s : ℕ) → s < length states → item_at states s < length parents
+  pub named : Exactly n.named (λ d. (s : ℕ) × (s < length states) × (item_at states s ≡ d))
+  -- a lies above the item of some state
+  pub above : Exactly n.above (λ a. (s : ℕ) × (s < length states) × (item_at states s ≢ a) × Joined rows (item_at states s) a)
+  -- a is, or lies above, the item of each state
+  pub common : Exactly n.common (λ a. (a < 64) × ((s : ℕ) → s < length states → Joined rows (item_at states s) a))
 
 -- a is in the set, and its row has all that is in the set
 pub record Deepest (rows : List ItemSet) (set : ItemSet) (a : ℕ) : Type 0 where

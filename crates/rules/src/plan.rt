@@ -1,9 +1,9 @@
 // What a step of a job needs of the job's type, computed once, so that the step itself only looks it up.
-ghost use Rattle.std.specs.Prelude.{ℕ, ◌<◌, length, Decides, MatchOption};
+ghost use Rattle.std.specs.Prelude.{MatchOption};
 ghost use Rattle.rules.specs.Plans.{NoType, PlanFor};
-ghost use Rattle.rules.specs.Sets.{item_at};
 
 use crate::closure::Order;
+use crate::naming::Naming;
 use crate::state::State;
 use crate::tree::LockTree;
 use crate::unlocking::each_left_behind;
@@ -27,44 +27,30 @@ pub struct Plan {
     pub unlockable: [ItemSet; 32],
 }
 
-// Whether each state names an item below n.
-fn all_name_below(states: &[State], n: usize) -> bool
-    ensures { Decides result ((s : ℕ) → s < length states.now → item_at states.now s < n) }
-{
-    states.iter().all(|state| (state.item as usize) < n)
-}
-
 // The plan of a job type with these states over the tree. It is right in every workload that has such a type, and nothing
 // is answered only where no workload has one.
 pub fn plan_of(lock: &LockTree, states: &[State]) -> Option<Plan>
     ensures { MatchOption result (NoType lock.now.tree.parents.now states.now) (PlanFor lock.now.tree.parents.now states.now) }
 {
-    let tree = &lock.tree;
-    let up = &lock.above;
     let graph = Graph::of(states)?;
-    if !all_name_below(states, tree.parents.len()) {
-        return None;
-    }
-    let named = graph.named();
-    let common = up.common_above(named);
-    let root = up.deepest_of(common)?;
-    let local = up.local_items(named, common, root);
-    let children = lock.children_in(local);
-    let leaves = children.childless_in(local);
-    // The checker follows a row of a field into the plan only through a variable.
-    let children = children.rows;
+    let naming = Naming::of(lock, states)?;
+    let root = lock.above.deepest_of(naming.common)?;
+    let local = naming.local_items(root);
+    let leaves = naming.leaves();
+    let children = lock.children_in(local).rows;
     let arcs = graph.arcs();
     let back = arcs.converse();
     let names = graph.names();
     let ahead = graph.named_along(names, &arcs, Order::Down);
     let behind = graph.named_along(names, &back, Order::Up);
-    let unreachable = ahead.lacking(tree.items());
+    let unreachable = ahead.lacking(lock.tree.items());
     let unlockable = each_left_behind(&back, &unreachable, &behind).rows;
+    // The checker follows a row of a field into the plan only through a variable.
     let unreachable = unreachable.rows;
     Some(Plan {
         root,
         local,
-        named,
+        named: naming.named,
         leaves,
         children,
         unreachable,

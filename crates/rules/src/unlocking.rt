@@ -10,17 +10,6 @@ use crate::ways::Graph;
 use itemset::ItemSet;
 
 impl<'a> Graph<'a> {
-    // The items that the states name.
-    pub(crate) fn named(&self) -> ItemSet
-        ensures { Exactly result (λ d. (d < 64) × ((s : ℕ) × Names self.now.states.now s d)) }
-    {
-        let mut named = ItemSet::empty();
-        for state in self.states {
-            named.insert(state.item);
-        }
-        named
-    }
-
     // The item that state s names; none where there is no such state.
     fn name(&self, s: usize) -> ItemSet
         ensures { Exactly result (λ d. (d < 64) × Names self.now.states.now s d) }

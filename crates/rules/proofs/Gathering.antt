@@ -9,7 +9,7 @@ use Rattle.itemset.specs.Members.{holds, nothing}
 use Rattle.rules.specs.Reach.{Ahead, Joined, Reaches, here, step}
 use Rattle.rules.specs.declared.state.State.{State}
 use Rattle.rules.specs.Rules.{Arc, nowhere}
-use Rattle.rules.specs.Sets.{Exactly}
+use Rattle.rules.specs.Sets.{Exactly, Names, NamesAlong}
 use Rattle.rules.proofs.Rows.{joined_within}
 
 -- the set holds what P says of some number below i
@@ -100,9 +100,23 @@ module _ (E : ℕ → ℕ → Type 0) (n : ℕ) (rows : List ItemSet) (long : le
     λ p. (ahead s l t).1 (t, reaches_map rows_all p, (own t (low p l) t).1 refl),
   )
 
-  -- and the rows of the converse
-  pub back_only : (back : List ItemSet) → length back ≡ n → ((m : ℕ) → m < n → Exactly (get_or back m nothing) (λ s. Joined rows s m)) → (m s : ℕ) → Joined back m s → E s m
-  back_only back same turned m s j = rows_only s m ((turned m (omega (arith, joined_within back m s j)) s).0 j)
+-- rows that hold the arcs join states of the type
+pub arcs_within
+    : (states : List State) → length states ≤ 32 → (arcs : List ItemSet) → length arcs ≡ 32 → ((s : ℕ) → s < 32 → Exactly (get_or arcs s nothing) (Arc states s))
+    → (s m : ℕ) → Joined arcs s m → (s < length states) × (m < length states)
+arcs_within states few arcs long are s m j =
+    let a = rows_only (Arc states) 32 arcs long (arc_below states few) are s m j in
+    (arc_from states s m a, a.0)
 
-  pub back_all : (back : List ItemSet) → ((m : ℕ) → m < n → Exactly (get_or back m nothing) (λ s. Joined rows s m)) → (m s : ℕ) → E s m → Joined back m s
-  back_all back turned m s e = (turned m (below s m e).1 s).1 (rows_all s m e)
+-- names that spread along a relation are named along it
+pub names_spread
+    : (E : ℕ → ℕ → Type 0) (states : List State) → length states ≤ 32 → (first last : List ItemSet) → length first ≡ 32
+    → ((s : ℕ) → s < 32 → Exactly (get_or first s nothing) (λ d. (d < 64) × Names states s d)) → ((s : ℕ) → s < 32 → Exactly (get_or last s nothing) (Ahead E first s))
+    → (s : ℕ) → s < 32 → Exactly (get_or last s nothing) (λ d. (d < 64) × NamesAlong E states s d)
+names_spread E states few first last long names ahead s l d = (
+  λ h.
+      let a = (ahead s l d).0 h in
+      let q = (names a.0 (omega (arith, joined_within first a.0 d a.2)) d).0 a.2 in
+      (q.0, (a.0, a.1, q.1)),
+  λ q. (ahead s l d).1 (q.1.0, q.1.1, (names q.1.0 (let i = q.1.2.0 in omega arith) d).1 (q.0, q.1.2)),
+)

@@ -11,7 +11,7 @@ use Rattle.rules.specs.declared.naming.Naming.{Naming}
 use Rattle.rules.specs.declared.plan.Plan.{Plan}
 use Rattle.rules.specs.declared.state.State.{State}
 use Rattle.rules.specs.Plans.{HasType, Planned}
-use Rattle.rules.specs.Reach.{Joined, Reaches, here, step}
+use Rattle.rules.specs.Reach.{Converse, Joined, Reaches, here, step}
 use Rattle.rules.specs.Rules.{Arc, Parent, nowhere}
 use Rattle.rules.specs.Sets.{ChildIn, Deepest, Exactly, LeftBehind, NamingOf, NamesAlong, item_at}
 use Rattle.rules.specs.View.{state_at, workload_of}
@@ -46,11 +46,11 @@ pub lacking_of
 lacking_of all x a h d = (λ e. let q = (h d).0 e in ((a d).0 q.0, q.1), λ q. (h d).1 ((a d).1 q.0, q.1))
 
 -- the rows of the states: those before each, and the items that are named ahead and behind
-pub record Going (states : List State) (back ahead behind : List ItemSet) : Type 0 where
+pub record Going (states : List State) (arcs ahead behind : List ItemSet) : Type 0 where
   pub short : length states ≤ 32
-  pub back_are : (s : ℕ) → s < 32 → Exactly (get_or back s nothing) (λ m. Arc states m s)
+  pub arcs_are : (s m : ℕ) → Decides (holds (get_or arcs s nothing) m) (Arc states s m)
   pub ahead_are : (s : ℕ) → s < 32 → Exactly (get_or ahead s nothing) (NamesAlong (Arc states) states s)
-  pub behind_are : (m : ℕ) → m < 32 → Exactly (get_or behind m nothing) (NamesAlong (λ a b. Arc states b a) states m)
+  pub behind_are : (m : ℕ) → m < 32 → Exactly (get_or behind m nothing) (NamesAlong (Converse (Arc states)) states m)
 
 -- d is named or lies above what is
 abbrev pub Over : Naming → ℕ → Type 0
@@ -66,12 +66,12 @@ pub record Made (parents : List ℕ) (states : List State) (p : Plan) : Type 0 w
   pub children_are : (d : ℕ) → d < 64 → Exactly (get_or p.children d nothing) (ChildIn parents p.local d)
   pub leaves_are : Exactly p.leaves (λ d. (holds naming.named d ≡ true) × (holds naming.above d ≡ true → ⊥))
   pub named_is : p.named ≡ naming.named
-  pub back : List ItemSet
+  pub arcs : List ItemSet
   pub ahead : List ItemSet
   pub behind : List ItemSet
-  pub going : Going states back ahead behind
+  pub going : Going states arcs ahead behind
   pub unreachable_are : (s : ℕ) → s < 32 → Exactly (get_or p.unreachable s nothing) (λ d. (d < length parents) × (Joined ahead s d → ⊥))
-  pub unlockable_are : (s : ℕ) → s < 32 → Exactly (get_or p.unlockable s nothing) (LeftBehind back p.unreachable behind s)
+  pub unlockable_are : (s : ℕ) → s < 32 → Exactly (get_or p.unlockable s nothing) (LeftBehind arcs p.unreachable behind s)
 
 module _ (parents : List ℕ) (codes : ℕ) (types : List (List State)) (t : ℕ) (F : WellFormed (workload_of parents codes types)) (ht : t < length types)
     (four : (s : ℕ) → s < length (get_or types t []) → length (state_at types t s).arcs ≡ 4) where
@@ -232,13 +232,13 @@ module _ (parents : List ℕ) (codes : ℕ) (types : List (List State)) (t : ℕ
               }),
         )
 
-  module _ (back ahead behind : List ItemSet) (G : Going (get_or types t []) back ahead behind) where
+  module _ (arcs ahead behind : List ItemSet) (G : Going (get_or types t []) arcs ahead behind) where
     leads : (s m : ℕ) → model.Arc W t s m → m < length (get_or types t [])
     leads s m a = F.leads t s m ht a
 
-    Before : (s m : ℕ) → s < length (get_or types t []) → Decides (holds (get_or back s nothing) m) (model.Arc W t m s)
-    Before s m h =
-        let u = G.back_are s (omega (arith, G.short)) m in (
+    Before : (s m : ℕ) → Decides (holds (get_or arcs m nothing) s) (model.Arc W t m s)
+    Before s m =
+        let u = G.arcs_are m s in (
           λ e. arc_out parents codes types t four m s (u.0 e),
           λ a. u.1 (arc_in parents codes types t four leads m s a),
         )
@@ -248,7 +248,7 @@ module _ (parents : List ℕ) (codes : ℕ) (types : List (List State)) (t : ℕ
 
     -- a state behind s that names another item than s is, or is behind, one that has an arc to s
     behind_one_before
-        : {s r : ℕ} → Reaches (λ a b. Arc (get_or types t []) b a) s r → ¬ ((state_at types t s).item ≡ (state_at types t r).item)
+        : {s r : ℕ} → Reaches (Converse (Arc (get_or types t []))) s r → ¬ ((state_at types t s).item ≡ (state_at types t r).item)
         → (m : ℕ) × model.Arc W t m s × Way W t r m
     behind_one_before here n = absurd (n refl)
     behind_one_before {s} (step {m = m} e p) n = (m, arc_out parents codes types t four m s e, reaches_way parents codes types t four (turned p))
@@ -263,7 +263,7 @@ module _ (parents : List ℕ) (codes : ℕ) (types : List (List State)) (t : ℕ
             λ q. (rows s k d).1 (q.0, λ e. let a = (G.ahead_are s k d).0 e in q.1 a.0 (reaches_way parents codes types t four a.1) a.2.1),
           )
 
-      is_unlockable : (unlockable : List ItemSet) → ((s : ℕ) → s < 32 → Exactly (get_or unlockable s nothing) (LeftBehind back unreachable behind s))
+      is_unlockable : (unlockable : List ItemSet) → ((s : ℕ) → s < 32 → Exactly (get_or unlockable s nothing) (LeftBehind arcs unreachable behind s))
           → (s : ℕ) → s < length (get_or types t []) → Exactly (get_or unlockable s nothing) (Unlockable W t s)
       is_unlockable unlockable left s h d = (to, from)
         where
@@ -278,7 +278,7 @@ module _ (parents : List ℕ) (codes : ℕ) (types : List (List State)) (t : ℕ
               let m = behind_one_before b.1 (λ i. u.1 s (stay s) (i ∙ b.2.1)) in
               record {
                 here = u.1;
-                not_before = λ m a v. q.not_before m ((Before s m h).1 a) ((is_unreachable m a.0 d).1 (u.0, v));
+                not_before = λ m a v. q.not_before m ((Before s m).1 a) ((is_unreachable m a.0 d).1 (u.0, v));
                 named_before = (m.0, b.0, m.1, m.2, b.2.1);
               }
 
@@ -290,7 +290,7 @@ module _ (parents : List ℕ) (codes : ℕ) (types : List (List State)) (t : ℕ
               (left s k d).1
               (record {
                 here = (is_unreachable s h d).1 (i, u.here);
-                not_before = λ m j v. let a = (Before s m h).0 j in u.not_before m a ((is_unreachable m a.0 d).0 v).1;
+                not_before = λ m j v. let a = (Before s m).0 j in u.not_before m a ((is_unreachable m a.0 d).0 v).1;
                 named_behind = (G.behind_are s k d).1 (n.1, step (arc_in parents codes types t four leads n.0 s n.2) (turned (goes n.3)), (r, n.4));
               })
 
@@ -300,7 +300,7 @@ module _ (parents : List ℕ) (codes : ℕ) (types : List (List State)) (t : ℕ
       let G = M.going in
       let root = is_root M.up M.naming R p.root M.deepest in
       let locals = is_local M.up M.naming R p.root root p.local M.local_is in
-      let are = is_unreachable M.back M.ahead M.behind G p.unreachable M.unreachable_are in
+      let are = is_unreachable M.arcs M.ahead M.behind G p.unreachable M.unreachable_are in
       record {
         root = root;
         local = locals;
@@ -308,7 +308,7 @@ module _ (parents : List ℕ) (codes : ℕ) (types : List (List State)) (t : ℕ
         leaves = is_leaf M.up M.naming R p.root root p.leaves M.leaves_are;
         children = is_child R.few p.local locals p.children M.children_are;
         unreachable = are;
-        unlockable = is_unlockable M.back M.ahead M.behind G p.unreachable M.unreachable_are p.unlockable M.unlockable_are;
+        unlockable = is_unlockable M.arcs M.ahead M.behind G p.unreachable M.unreachable_are p.unlockable M.unlockable_are;
       }
 
 module _ (parents : List ℕ) (states : List State) (codes t : ℕ) (types : List (List State)) (H : HasType parents codes types t states) where

@@ -4,7 +4,7 @@ use Rattle.std.proofs.lemmas.List.{get_or_past}
 use Rattle.std.proofs.lemmas.Bool.{cases_lt, both_ways}
 use Rattle.itemset.proofs.Laws.{has_none}
 use Rattle.itemset.specs.Members.{holds, nothing}
-use Rattle.rules.specs.Reach.{Joined, Reaches, here, step}
+use Rattle.rules.specs.Reach.{Converse, Joined, Reaches, here, step}
 use Rattle.itemset.specs.declared.ItemSet.{ItemSet}
 
 -- a loop has come to i: what stands before i meets P, and the rest is as it was
@@ -25,6 +25,6 @@ reaches_on here q = q
 reaches_on (step e p) q = step e (reaches_on p q)
 
 -- a way the other way round
-pub turned : {E : ℕ → ℕ → Type 0} {s t : ℕ} → Reaches E s t → Reaches (λ a b. E b a) t s
+pub turned : {E : ℕ → ℕ → Type 0} {s t : ℕ} → Reaches E s t → Reaches (Converse E) t s
 turned here = here
 turned (step e p) = reaches_on (turned p) (step e here)

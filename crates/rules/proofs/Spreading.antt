@@ -1,7 +1,7 @@
 -- Rows that take over what others hold, until they hold all that is ahead of them.
 use Rattle.std.proofs.Common.{◌≡◌, ℕ, zero, suc, ◌+◌, ◌-◌, ◌*◌, ◌<◌, ◌≤◌, ◌⊎◌, Bool, true, false, not, ◌&&◌, ◌||◌, eqb, List, [], ◌∷◌, Option, Some, None, MatchOption, length, get_or, set, get_or-set_same, get_or-set_other, Decides, sym, refl, ap, ◌∙◌, subst, inl, inr, arith}
 use Rattle.std.specs.Option.{is_some}
-use Rattle.std.proofs.lemmas.Bool.{and_from, and_parts, both_ways, cases_Bool, cases_eq, eqb-true, false_from_ne_true, false≢true, not-true, not_from_false, or_cases, or_left, or_right, true≢false}
+use Rattle.std.proofs.lemmas.Bool.{and_from, and_parts, both_ways, cases_Bool, cases_eq, eqb-true, false_from_ne_true, false≢true, not-false, not-true, not_from_false, or_cases, or_left, or_right, true≢false}
 use Rattle.itemset.proofs.Counting.{count, count_within, fewer, no_more}
 use Rattle.itemset.specs.declared.ItemSet.{ItemSet}
 use Rattle.itemset.specs.Members.{holds, nothing}
@@ -75,16 +75,16 @@ lowest_of x (Some d) h e = (d, h.2, h.0)
 
 -- a row that lacked something takes it over
 pub takes_over
-    : (old : List ItemSet) (s : ℕ) (from held news row : ItemSet) → s < length old → Exactly held (HeldBy old from)
-    → ((t : ℕ) → holds news t ≡ (holds held t && not (holds (get_or old s nothing) t))) → ((t : ℕ) → holds row t ≡ (holds (get_or old s nothing) t || holds news t))
-    → (t : ℕ) × (t < 64) × (holds news t ≡ true) → TakesOver old (set old s row) s from true
-takes_over old s from held news row l h n u w =
+    : (old : List ItemSet) (s : ℕ) (given news row : ItemSet) → s < length old
+    → ((t : ℕ) → holds news t ≡ (holds given t && not (holds (get_or old s nothing) t))) → ((t : ℕ) → holds row t ≡ (holds (get_or old s nothing) t || holds news t))
+    → (t : ℕ) × (t < 64) × (holds news t ≡ true) → TakesOver old (set old s row) s given true
+takes_over old s given news row l n u w =
     record {
       kept = kept;
       only = only;
       took = took;
       quiet = λ e. absurd (true≢false e);
-      loud = λ e. let q = and_parts (holds held w.0) (not (holds (get_or old s nothing) w.0)) (sym (n w.0) ∙ w.2) in
+      loud = λ e. let q = and_parts (holds given w.0) (not (holds (get_or old s nothing) w.0)) (sym (n w.0) ∙ w.2) in
           (s, w.0, w.1, here s refl w.0 (u w.0 ∙ or_right (holds (get_or old s nothing) w.0) (holds news w.0) w.2), both_ways _ (not-true (holds (get_or old s nothing) w.0) q.1));
     }
   where
@@ -97,17 +97,17 @@ takes_over old s from held news row l h n u w =
       | inr ne ↦ subst (λ (x : ItemSet). holds x t ≡ true) (sym (get_or-set_other old s r row nothing ne)) j
     ]
 
-    took : (t : ℕ) → HeldBy old from t → Joined (set old s row) s t
+    took : (t : ℕ) → holds given t ≡ true → Joined (set old s row) s t
     took t q = here s refl t (u t ∙ elim (cases_Bool (holds (get_or old s nothing) t)) [
       | inl y ↦ or_left (holds (get_or old s nothing) t) (holds news t) y
-      | inr f ↦ or_right (holds (get_or old s nothing) t) (holds news t) (n t ∙ and_from (holds held t) (not (holds (get_or old s nothing) t)) ((h t).1 q) (not_from_false (holds (get_or old s nothing) t) f))
+      | inr f ↦ or_right (holds (get_or old s nothing) t) (holds news t) (n t ∙ and_from (holds given t) (not (holds (get_or old s nothing) t)) q (not_from_false (holds (get_or old s nothing) t) f))
     ])
 
-    only : (r t : ℕ) → Joined (set old s row) r t → Joined old r t ⊎ ((r ≡ s) × HeldBy old from t)
+    only : (r t : ℕ) → Joined (set old s row) r t → Joined old r t ⊎ ((r ≡ s) × (holds given t ≡ true))
     only r t j = elim (cases_eq r s) [
       | inl e ↦ elim (or_cases (holds (get_or old s nothing) t) (holds news t) (sym (u t) ∙ subst (λ (x : ItemSet). holds x t ≡ true) (ap (λ (i : ℕ). get_or (set old s row) i nothing) e ∙ get_or-set_same old s row nothing l) j)) [
         | inl a ↦ inl (subst (λ (i : ℕ). Joined old i t) (sym e) a)
-        | inr b ↦ inr (e, (h t).0 (and_parts (holds held t) (not (holds (get_or old s nothing) t)) (sym (n t) ∙ b)).0)
+        | inr b ↦ inr (e, (and_parts (holds given t) (not (holds (get_or old s nothing) t)) (sym (n t) ∙ b)).0)
       ]
       | inr ne ↦ inl (subst (λ (x : ItemSet). holds x t ≡ true) (get_or-set_other old s r row nothing ne) j)
     ]
@@ -153,11 +153,11 @@ one_turn Down n i k l h e = absurd (omega arith)
 
 module _ (along first old new : List ItemSet) (order : Order) (n k s : ℕ) (within : k < n) (its : s ≡ turn order n k) (seen later : ItemSet)
     (put : (m : ℕ) → holds later m ≡ (holds seen m || eqb m s)) (before ordered : Bool) (T : Turns (Joined along) first old order n k seen before ordered)
-    (same : length new ≡ length old) (b : Bool) (w : TakesOver old new s (get_or along s nothing) b) where
+    (same : length new ≡ length old) (held : ItemSet) (are : Exactly held (HeldBy old (get_or along s nothing))) (b : Bool) (w : TakesOver old new s held b) where
   only_ahead : (r t : ℕ) → Joined new r t → Ahead (Joined along) first r t
   only_ahead r t h = elim (w.only r t h) [
     | inl j ↦ T.only r t j
-    | inr q ↦ (let a = T.only q.1.0 t q.1.2 in (a.0, step (subst (λ (x : ℕ). Joined along x q.1.0) (sym q.0) q.1.1) a.1, a.2))
+    | inr q ↦ (let g = (are t).0 q.1 in let a = T.only g.0 t g.2 in (a.0, step (subst (λ (x : ℕ). Joined along x g.0) (sym q.0) g.1) a.1, a.2))
   ]
 
   now_before : (m : ℕ) → holds later m ≡ true → Before order n (k + 1) m
@@ -177,7 +177,7 @@ module _ (along first old new : List ItemSet) (order : Order) (n k s : ℕ) (wit
   at_rest : b ≡ false → before ≡ false → (m t : ℕ) → Joined along s m → Joined first m t → Joined first s t
   at_rest e f m t a h =
       let same_rows : new ≡ first = w.quiet e ∙ (T.quiet f).0 in
-      subst (λ (xs : List ItemSet). Joined xs s t) same_rows (w.took t (m, a, subst (λ (xs : List ItemSet). Joined xs m t) (sym (T.quiet f).0) h))
+      subst (λ (xs : List ItemSet). Joined xs s t) same_rows (w.took t ((are t).1 (m, a, subst (λ (xs : List ItemSet). Joined xs m t) (sym (T.quiet f).0) h)))
 
   -- what is said of each of k turns and of this one is said of each of k + 1
   and_now : (P : ℕ → ℕ → Type 0) → ((j : ℕ) → j < k → P j (turn order n j)) → P k s → (j : ℕ) → j < k + 1 → P j (turn order n j)
@@ -195,7 +195,7 @@ module _ (along first old new : List ItemSet) (order : Order) (n k s : ℕ) (wit
           and_now (λ j x. (m : ℕ) → Joined along x m → Before order n j m) S.0 earlier,
           and_now (λ j x. (m t : ℕ) → Joined along x m → Joined new m t → Joined new x t)
               (λ j l m t a g. let q = S.0 j l m a in w.kept (turn order n j) t (S.1 j l m t a (unmoved m t (q.0, omega (arith, q.1), q.2) g)))
-              (λ m t a g. w.took t (m, a, unmoved m t (earlier m a) g)),
+              (λ m t a g. w.took t ((are t).1 (m, a, unmoved m t (earlier m a) g))),
         )
 
     pub turns_loud : b ≡ true → Turns (Joined along) first new order n (k + 1) later true after
@@ -248,11 +248,7 @@ module _ (E : ℕ → ℕ → Type 0) (first rows : List ItemSet) (order : Order
 
   pub pulled_news : news ≡ true → Pulls E first rows (not ordered)
   pulled_news e =
-      record { kept = T.kept; only = T.only; quiet = λ f. rested rows (T.steady (true_from_not ordered f)).1; loud = λ f. T.loud e }
-    where
-      true_from_not : (b : Bool) → not b ≡ false → b ≡ true
-      true_from_not true f = refl
-      true_from_not false f = absurd (true≢false f)
+      record { kept = T.kept; only = T.only; quiet = λ f. rested rows (T.steady (not-false ordered f)).1; loud = λ f. T.loud e }
 
 -- rows that took over nothing but what is ahead of them
 pub record Spreads (E : ℕ → ℕ → Type 0) (first rows : List ItemSet) : Type 0 where

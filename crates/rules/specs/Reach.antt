@@ -20,6 +20,10 @@ pub data Reaches (E : ℕ → ℕ → Type 0) : ℕ → ℕ → Type 0 where
 abbrev pub HeldBy : List ItemSet → ItemSet → ℕ → Type 0
 HeldBy rows set t = (m : ℕ) × (holds set m ≡ true) × Joined rows m t
 
+-- the relation the other way round
+abbrev pub Converse : (ℕ → ℕ → Type 0) → ℕ → ℕ → Type 0
+Converse E s m = E m s
+
 -- some number that s reaches is joined to t
 abbrev pub Ahead : (ℕ → ℕ → Type 0) → List ItemSet → ℕ → ℕ → Type 0
 Ahead E rows s t = (m : ℕ) × Reaches E s m × Joined rows m t
@@ -32,11 +36,19 @@ Keeps old new = (s t : ℕ) → Joined old s t → Joined new s t
 abbrev pub Gains : List ItemSet → List ItemSet → Type 0
 Gains old new = (s t : ℕ) × (t < 64) × Joined new s t × (Joined old s t → ⊥)
 
--- row s took over what the rows of the set's numbers held, and no other row changed; `news` is whether it lacked any of that
+-- row s took over what the set holds, and no other row changed; `news` is whether it lacked any of that
 pub record TakesOver (old new : List ItemSet) (s : ℕ) (set : ItemSet) (news : Bool) : Type 0 where
   pub kept : Keeps old new
-  pub only : (r t : ℕ) → Joined new r t → Joined old r t ⊎ ((r ≡ s) × HeldBy old set t)
-  pub took : (t : ℕ) → HeldBy old set t → Joined new s t
+  pub only : (r t : ℕ) → Joined new r t → Joined old r t ⊎ ((r ≡ s) × (holds set t ≡ true))
+  pub took : (t : ℕ) → holds set t ≡ true → Joined new s t
+  pub quiet : news ≡ false → new ≡ old
+  pub loud : news ≡ true → Gains old new
+
+-- the rows of the numbers took over what the set holds, and no other row changed; `news` is whether any lacked some of that
+pub record Gives (old new : List ItemSet) (numbers set : ItemSet) (news : Bool) : Type 0 where
+  pub kept : Keeps old new
+  pub only : (r t : ℕ) → Joined new r t → Joined old r t ⊎ ((holds numbers r ≡ true) × (holds set t ≡ true))
+  pub took : (r t : ℕ) → holds numbers r ≡ true → holds set t ≡ true → Joined new r t
   pub quiet : news ≡ false → new ≡ old
   pub loud : news ≡ true → Gains old new
 
@@ -54,8 +66,8 @@ turn Down n k = n - 1 - k
 
 -- the relation that rows hold, or its converse
 abbrev pub along : Way → List ItemSet → ℕ → ℕ → Type 0
-along On rows s m = Joined rows s m
-along Back rows s m = Joined rows m s
+along On rows = Joined rows
+along Back rows = Converse (Joined rows)
 
 -- some number of the set reaches t
 abbrev pub ReachedFrom : (ℕ → ℕ → Type 0) → ItemSet → ℕ → Type 0

@@ -53,7 +53,7 @@ pub record ChildIn (parents : List ℕ) (set : ItemSet) (d c : ℕ) : Type 0 whe
   pub below : holds set c ≡ true
 
 -- d is unreachable from s, but from no state before s, and named at s or behind it
-pub record LeftBehind (back unreachable behind : List ItemSet) (s d : ℕ) : Type 0 where
+pub record LeftBehind (arcs unreachable behind : List ItemSet) (s d : ℕ) : Type 0 where
   pub here : Joined unreachable s d
-  pub not_before : (m : ℕ) → Joined back s m → Joined unreachable m d → ⊥
+  pub not_before : (m : ℕ) → Joined arcs m s → Joined unreachable m d → ⊥
   pub named_behind : Joined behind s d

@@ -1,6 +1,6 @@
 // Relations on numbers, each held as a row of sets.
 ghost use Rattle.std.specs.Prelude.{◌≡◌, ℕ, ◌<◌, ◌≤◌, ◌⊎◌, true, length, slice_index_or};
-ghost use Rattle.rules.specs.Reach.{Ahead, Grows, HeldBy, Joined, Pulls, ReachedFrom, TakesIn, TakesOver, along, turn};
+ghost use Rattle.rules.specs.Reach.{Ahead, Converse, Gives, Grows, HeldBy, Joined, Pulls, ReachedFrom, TakesIn, TakesOver, along, turn};
 ghost use Rattle.rules.specs.Sets.{Exactly, Rows};
 ghost use Rattle.itemset.specs.Members.{holds, nothing};
 
@@ -109,12 +109,12 @@ impl<const N: usize> Relation<N> {
         held
     }
 
-    // Row s takes over what the rows of the set's numbers hold. Tells whether it lacked any of that.
+    // Row s takes over what the set holds. Tells whether it lacked any of that.
     fn take_over(&mut self, s: usize, set: ItemSet) -> bool
         requires { s < N }
         ensures { TakesOver self.old.rows self.new.rows s set result }
     {
-        let news = self.held_by(set).difference(self.rows[s]);
+        let news = set.difference(self.rows[s]);
         if news.lowest().is_none() {
             return false;
         }
@@ -137,7 +137,7 @@ impl<const N: usize> Relation<N> {
             let next = along.rows[s];
             ordered = ordered && next.is_subset(seen);
             seen.insert(s as u8);
-            if self.take_over(s, next) {
+            if self.take_over(s, self.held_by(next)) {
                 news = true;
             }
         }
@@ -152,6 +152,66 @@ impl<const N: usize> Relation<N> {
         ensures { Rows N self.new.rows (Ahead (Joined along.now.rows) self.old.rows) }
     {
         while self.pull(along, count, order) {}
+    }
+
+    // The rows of the numbers take over what the set holds. Tells whether any lacked some of that.
+    fn give(&mut self, numbers: ItemSet, set: ItemSet) -> bool
+        requires { (m : ℕ) → holds numbers m ≡ true → m < N }
+        ensures { Gives self.old.rows self.new.rows numbers set result }
+    {
+        let mut news = false;
+        let mut rest = numbers;
+        while let Some(m) = rest.lowest() {
+            if self.take_over(m as usize, set) {
+                news = true;
+            }
+            rest.remove(m);
+        }
+        news
+    }
+
+    // Each row gives what it holds to the rows of those that the other relation joins its number to. Tells whether they may still lack some
+    // of that: not where none lacked any, nor where each number is joined only to such whose turn comes after its own.
+    fn push(&mut self, along: &Relation<N>, count: usize) -> bool
+        requires count { count ≤ N }
+        requires within { (s m : ℕ) → Joined along.now.rows s m → (s < count) × (m < count) }
+        ensures { Pulls (Converse (Joined along.now.rows)) self.old.rows self.new.rows result }
+    {
+        let mut news = false;
+        let mut ordered = true;
+        let mut seen = ItemSet::empty();
+        for s in 0..count {
+            let next = along.rows[s];
+            seen.insert(s as u8);
+            ordered = ordered && !meet(next, seen);
+            if self.give(next, self.rows[s]) {
+                news = true;
+            }
+        }
+        news && !ordered
+    }
+
+    // Each row takes over what the rows of all numbers hold from which its own can be reached along the other relation.
+    pub(crate) fn spread_on(&mut self, along: &Relation<N>, count: usize)
+        requires count { count ≤ N }
+        requires within { (s m : ℕ) → Joined along.now.rows s m → (s < count) × (m < count) }
+        ensures { Rows N self.new.rows (Ahead (Converse (Joined along.now.rows)) self.old.rows) }
+    {
+        while self.push(along, count) {}
+    }
+
+    // For each number what the rows of those hold that the other relation joins to it.
+    pub(crate) fn handed_on(&self, along: &Relation<N>) -> Relation<N>
+        requires { (s m : ℕ) → Joined along.now.rows s m → m < N }
+        ensures { Rows N result.rows (λ s t. (m : ℕ) × Joined along.now.rows m s × Joined self.now.rows m t) }
+    {
+        let mut handed = Relation {
+            rows: [ItemSet::empty(); N],
+        };
+        for (s, row) in self.rows.iter().enumerate() {
+            handed.give(along.rows[s], *row);
+        }
+        handed
     }
 
     // The set, and what the row of s joins to it.
@@ -190,34 +250,5 @@ impl<const N: usize> Relation<N> {
         let mut reached = from;
         while self.grow(count, way, &mut reached) {}
         reached
-    }
-}
-
-impl Relation<32> {
-    // The numbers of the set are joined to s too.
-    fn join_to(&mut self, set: ItemSet, s: u8)
-        requires { s < 64 }
-        ensures { Rows 32 self.new.rows (λ m t. Joined self.old.rows m t ⊎ ((t ≡ s) × (holds set m ≡ true))) }
-    {
-        let mut rest = set;
-        while let Some(m) = rest.lowest() {
-            if m < 32 {
-                self.rows[m as usize].insert(s);
-            }
-            rest.remove(m);
-        }
-    }
-
-    // The converse relation: m is joined to s where s was joined to m.
-    pub(crate) fn converse(&self) -> Relation<32>
-        ensures { Rows 32 result.rows (λ m s. Joined self.now.rows s m) }
-    {
-        let mut converse = Relation {
-            rows: [ItemSet::empty(); 32],
-        };
-        for (s, row) in self.rows.iter().enumerate() {
-            converse.join_to(*row, s as u8);
-        }
-        converse
     }
 }

@@ -2,7 +2,6 @@
 ghost use Rattle.std.specs.Prelude.{MatchOption};
 ghost use Rattle.rules.specs.Plans.{NoType, PlanFor};
 
-use crate::closure::Order;
 use crate::naming::Naming;
 use crate::state::State;
 use crate::tree::LockTree;
@@ -39,12 +38,11 @@ pub fn plan_of(lock: &LockTree, states: &[State]) -> Option<Plan>
     let leaves = naming.leaves();
     let children = lock.children_in(local).rows;
     let arcs = graph.arcs();
-    let back = arcs.converse();
     let names = graph.names();
-    let ahead = graph.named_along(names, &arcs, Order::Down);
-    let behind = graph.named_along(names, &back, Order::Up);
+    let ahead = graph.named_ahead(names, &arcs);
+    let behind = graph.named_behind(names, &arcs);
     let unreachable = ahead.lacking(lock.tree.items());
-    let unlockable = each_left_behind(&back, &unreachable, &behind).rows;
+    let unlockable = each_left_behind(&arcs, &unreachable, &behind).rows;
     // The checker follows a row of a field into the plan only through a variable.
     let unreachable = unreachable.rows;
     Some(Plan {

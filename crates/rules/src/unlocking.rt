@@ -2,7 +2,7 @@
 // and those of them that the job has just left behind.
 ghost use Rattle.std.specs.Prelude.{◌≡◌, ℕ, ◌<◌, true, length, slice_index_or};
 ghost use Rattle.itemset.specs.Members.{holds};
-ghost use Rattle.rules.specs.Reach.{Joined};
+ghost use Rattle.rules.specs.Reach.{Converse, Joined};
 ghost use Rattle.rules.specs.Sets.{Exactly, LeftBehind, Names, NamesAlong, Rows};
 
 use crate::closure::{Order, Relation};
@@ -28,19 +28,25 @@ impl<'a> Graph<'a> {
         Relation::from_fn(|s| self.name(s))
     }
 
-    // For each state the items that the states name to which ways along the relation lead; `names` has what each state names itself.
-    pub(crate) fn named_along(
-        &self,
-        names: Relation<32>,
-        along: &Relation<32>,
-        order: Order,
-    ) -> Relation<32>
+    // For each state the items that are named on the ways from it; `names` has what each state names itself.
+    pub(crate) fn named_ahead(&self, names: Relation<32>, arcs: &Relation<32>) -> Relation<32>
         requires names { Rows 32 names.rows (λ s d. (d < 64) × Names self.now.states.now s d) }
-        requires within { (s m : ℕ) → Joined along.now.rows s m → s < length self.now.states.now }
-        ensures { Rows 32 result.rows (λ s d. (d < 64) × NamesAlong (Joined along.now.rows) self.now.states.now s d) }
+        requires within { (s m : ℕ) → Joined arcs.now.rows s m → s < length self.now.states.now }
+        ensures { Rows 32 result.rows (λ s d. (d < 64) × NamesAlong (Joined arcs.now.rows) self.now.states.now s d) }
     {
         let mut named = names;
-        named.spread(along, self.states.len(), order);
+        named.spread(arcs, self.states.len(), Order::Down);
+        named
+    }
+
+    // For each state the items that are named on the ways to it.
+    pub(crate) fn named_behind(&self, names: Relation<32>, arcs: &Relation<32>) -> Relation<32>
+        requires names { Rows 32 names.rows (λ s d. (d < 64) × Names self.now.states.now s d) }
+        requires within { (s m : ℕ) → Joined arcs.now.rows s m → (s < length self.now.states.now) × (m < length self.now.states.now) }
+        ensures { Rows 32 result.rows (λ s d. (d < 64) × NamesAlong (Converse (Joined arcs.now.rows)) self.now.states.now s d) }
+    {
+        let mut named = names;
+        named.spread_on(arcs, self.states.len());
         named
     }
 }
@@ -54,30 +60,31 @@ impl Relation<32> {
     }
 }
 
-// What a job has just left behind when it comes to state s. Each state is joined to those that have an arc to it by `back`,
-// and by `behind` to what it names and what those before it do.
+// What a job has just left behind when it comes to state s: what is unreachable there and named on a way there, but for what
+// was unreachable already in a state before.
 fn left_behind(
-    back: &Relation<32>,
     unreachable: &Relation<32>,
     behind: &Relation<32>,
+    already: &Relation<32>,
     s: usize,
 ) -> ItemSet
     requires { s < 32 }
-    ensures { Exactly result (LeftBehind back.now.rows unreachable.now.rows behind.now.rows s) }
+    ensures { Exactly result (λ d. Joined unreachable.now.rows s d × Joined behind.now.rows s d × (Joined already.now.rows s d → ⊥)) }
 {
-    let already = unreachable.held_by(back.rows[s]);
     behind.rows[s]
         .intersection(unreachable.rows[s])
-        .difference(already)
+        .difference(already.rows[s])
 }
 
 // For each state what a job has just left behind when it comes there.
 pub(crate) fn each_left_behind(
-    back: &Relation<32>,
+    arcs: &Relation<32>,
     unreachable: &Relation<32>,
     behind: &Relation<32>,
 ) -> Relation<32>
-    ensures { Rows 32 result.rows (LeftBehind back.now.rows unreachable.now.rows behind.now.rows) }
+    requires { (s m : ℕ) → Joined arcs.now.rows s m → m < 32 }
+    ensures { Rows 32 result.rows (LeftBehind arcs.now.rows unreachable.now.rows behind.now.rows) }
 {
-    Relation::from_fn(|s| left_behind(back, unreachable, behind, s))
+    let already = unreachable.handed_on(arcs);
+    Relation::from_fn(|s| left_behind(unreachable, behind, &already, s))
 }

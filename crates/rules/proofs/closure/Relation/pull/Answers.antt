@@ -27,10 +27,10 @@ loop-k-preserved g c =
     elim c.if-take_over.branch [
       | then-take_over w ↦ subst (λ (b : Bool). Turns (Joined along) first new c.args.order n (k + 1) c.insert.new.self b after) (sym w.news-is)
           (turns_loud along first old new c.args.order n k s c.loop-k-test.true c.turn-s.ensures c.loop-k.seen c.insert.new.self (c.insert.ensures.inside (omega (arith, turn_within c.args.order n k c.loop-k-test.true, c.turn-s.ensures))) c.loop-k.news c.loop-k.ordered c.loop-k.invariant (omega arith)
-          c.take_over.result c.take_over.ensures after also w.if-take_over.true)
+          c.held_by.result c.held_by.ensures c.take_over.result c.take_over.ensures after also w.if-take_over.true)
       | else-take_over w ↦ subst (λ (b : Bool). Turns (Joined along) first new c.args.order n (k + 1) c.insert.new.self b after) (sym w.news-is)
           (turns_quiet along first old new c.args.order n k s c.loop-k-test.true c.turn-s.ensures c.loop-k.seen c.insert.new.self (c.insert.ensures.inside (omega (arith, turn_within c.args.order n k c.loop-k-test.true, c.turn-s.ensures))) c.loop-k.news c.loop-k.ordered c.loop-k.invariant (omega arith)
-          c.take_over.result c.take_over.ensures after also w.if-take_over.false)
+          c.held_by.result c.held_by.ensures c.take_over.result c.take_over.ensures after also w.if-take_over.false)
     ]
 
 pub returns-then-news : goal.returns-then-news

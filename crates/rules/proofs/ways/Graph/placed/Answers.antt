@@ -1,31 +1,20 @@
-use Rattle.std.proofs.Common.{◌≡◌, ℕ, ◌<◌, ◌≤◌, List, length, get_or, refl, subst, arith}
-use Rattle.itemset.specs.declared.ItemSet.{ItemSet}
-use Rattle.itemset.specs.Members.{nothing}
-use Rattle.rules.specs.declared.state.State.{State}
+use Rattle.std.proofs.Common.{ℕ, ◌<◌, length, refl, subst, arith}
 use Rattle.rules.specs.Reach.{Joined, Reaches}
 use Rattle.rules.specs.Rules.{Arc, Terminal}
 use Rattle.rules.specs.Sets.{Exactly}
-use Rattle.rules.proofs.Gathering.{arc_below, arc_from, both, reaches_map, rows_all, rows_only}
+use Rattle.rules.proofs.Gathering.{arc_below, arcs_within, both, reaches_map, rows_all, rows_only}
 use Rattle.rules.proofs.Rows.{turned}
 use Rattle.rules.proofs.ways.Graph.placed.Goals as goal
-
--- the arcs join states of the type
-within
-    : (states : List State) → length states ≤ 32 → (arcs : List ItemSet) → length arcs ≡ 32 → ((s : ℕ) → s < 32 → Exactly (get_or arcs s nothing) (Arc states s))
-    → (s m : ℕ) → Joined arcs s m → (s < length states) × (m < length states)
-within states few arcs long are s m j =
-    let a = rows_only (Arc states) 32 arcs long (arc_below states few) are s m j in
-    (arc_from states s m a, a.0)
 
 pub reached-from_start-requires : goal.reached-from_start-requires
 reached-from_start-requires c =
     let graph = c.args.self.now in
-    (omega arith, (let k = graph.few in omega arith, within graph.states.now graph.few c.arcs-arcs.result.rows c.arcs-arcs.result.long c.arcs-arcs.ensures))
+    (omega arith, (let k = graph.few in omega arith, arcs_within graph.states.now graph.few c.arcs-arcs.result.rows c.arcs-arcs.result.long c.arcs-arcs.ensures))
 
 pub reached-to_end-requires : goal.reached-to_end-requires
 reached-to_end-requires c =
     let graph = c.args.self.now in
-    (omega arith, (let k = graph.few in omega arith, within graph.states.now graph.few c.arcs-arcs.result.rows c.arcs-arcs.result.long c.arcs-arcs.ensures))
+    (omega arith, (let k = graph.few in omega arith, arcs_within graph.states.now graph.few c.arcs-arcs.result.rows c.arcs-arcs.result.long c.arcs-arcs.ensures))
 
 pub returns : goal.returns
 returns c =

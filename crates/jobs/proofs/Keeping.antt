@@ -5,13 +5,15 @@ use mathlib.Core.Option.{none, some}
 use native.Mathlib.Decide.{ℕ_discrete}
 use Rattle.std.proofs.lemmas.List.{get_or_past}
 use Rattle.std.proofs.lemmas.Bool.{cases_lt}
-use Rattle.model.specs.Workload.{Workload, WellFormed}
+use Rattle.std.proofs.lemmas.Option.{same_Some}
+use Rattle.rules.specs.Sets.{Exactly}
+use Rattle.jobs.proofs.Nexts.{next_kept, next_new}
+use Rattle.model.specs.Workload.{Workload, WellFormed, LocalRoot}
 use Rattle.model.specs.Table.{Kind, Job, new_job, not_awaited, seat, Steps, releases, works, locks, waits, goes, closes, finishes, Told}
 use Rattle.model.specs.Sound.{Good}
-use Rattle.model.proofs.Tree.{local_root}
 use Rattle.model.proofs.Job.{good_new, good_not_awaited, good_ended, good_held, good_work, good_go, good_lock}
-use Rattle.model.proofs.History.{some_same, none_some}
-use Rattle.jobs.specs.View.{job_view, place_view, places_view, Sound, PlaceSound, AllSound}
+use Rattle.model.proofs.History.{none_some}
+use Rattle.jobs.specs.View.{job_view, place_view, places_view, Sound, SoundRecord, PlaceSound, AllSound}
 use Rattle.jobs.specs.declared.change.Change.{Change}
 use Rattle.jobs.specs.declared.record.JobRecord.{JobRecord}
 use Rattle.jobs.specs.Changes.{changed, changed_place}
@@ -23,22 +25,32 @@ pub place_other : (ps : List (Option JobRecord)) (i q : ℕ) (x : Option JobReco
 place_other ps i q x n = ap place_view (get_or-set_other ps i q x None n)
 
 pub sound_set : (W : Workload) (ps : List (Option JobRecord)) (i : ℕ) (x : Option JobRecord) → i < length ps → PlaceSound W x → AllSound W ps → AllSound W (set ps i x)
-sound_set W ps i x l s a p J e = elim (ℕ_discrete p i) [
-  | yes q ↦ s J (sym (place_set ps i x l) ∙ subst (λ (z : ℕ). places_view (set ps i x) z ≡ some J) q e)
-  | no n ↦ a p J (sym (place_other ps i p x n) ∙ e)
+sound_set W ps i x l s a p R e = elim (ℕ_discrete p i) [
+  | yes q ↦ s R (sym (get_or-set_same ps i x None l) ∙ subst (λ (z : ℕ). get_or (set ps i x) z None ≡ Some R) q e)
+  | no n ↦ a p R (sym (get_or-set_other ps i p x None n) ∙ e)
 ]
 
-pub sound_taken : (W : Workload) (J : Job) (x : Option JobRecord) → place_view x ≡ some J → Sound W J → PlaceSound W x
-sound_taken W J x e s I f = subst (Sound W) (some_same (sym e ∙ f)) s
+pub sound_taken : (W : Workload) (R : JobRecord) → SoundRecord W R → PlaceSound W (Some R)
+sound_taken W R s I e = subst (SoundRecord W) (same_Some R I e) s
 
 module _ (W : Workload) (F : WellFormed W) where
-  pub sound_new : (t : ℕ) (a : ℤ) → t < W.types → Sound W (new_job t a)
-  sound_new t a h = let r = local_root W F t h in ∣ (r.0, good_new W F t a r.0 h r.1) ∣₁
+  -- a new record, of a type with this root
+  pub sound_new
+      : (t root : ℕ) (a : ℤ) (R : JobRecord) → t < W.types → LocalRoot W t root → job_view R ≡ new_job t a → Exactly R.next (λ d. d ≡ root) → SoundRecord W R
+  sound_new t root a R h r e n =
+      record {
+        job = subst (Sound W) (sym e) ∣ (root, good_new W F t a root h r) ∣₁;
+        next = next_kept W (new_job t a) R R.next e refl (next_new W F t root a h r R.next n);
+      }
+
+  pub sound_left : (R R' : JobRecord) → SoundRecord W R → job_view R' ≡ not_awaited (job_view R) → R'.next ≡ R.next → SoundRecord W R'
+  sound_left R R' s e n =
+      record {
+        job = subst (Sound W) (sym e) (∥∥₁_map s.job (λ g. (g.0, good_not_awaited W F g.0 (job_view R) g.1)));
+        next = next_kept W (not_awaited (job_view R)) R' R.next e n s.next;
+      }
 
   module _ (J : Job) (S : Sound W J) where
-    pub sound_left : Sound W (not_awaited J)
-    sound_left = ∥∥₁_map S (λ g. (g.0, good_not_awaited W F g.0 J g.1))
-
     good_step
         : {V : Type 0} (K : Kind V) (H : ℕ → ℕ → Type 0) (vs : List V) (a : Told) (new : List V) (J' : Job) (r : ℕ) → Good W r J → J.has_finished ≡ false
         → Steps W K H vs J a new J' → Good W r J'
@@ -60,6 +72,17 @@ seat_view : (b : Bool) (r : JobRecord) → place_view (cond b None (Some r)) ≡
 seat_view true r = refl
 seat_view false r = refl
 
+seat_record : (b : Bool) (r R : JobRecord) → cond b None (Some r) ≡ Some R → r ≡ R
+seat_record true r R e = cc
+seat_record false r R e = same_Some r R e
+
+-- what stands at the job's place after a change is sound, where the record is
+pub sound_changed
+    : (W : Workload) (x : Option JobRecord) (r : JobRecord) (c : Change) → x ≡ Some r → SoundRecord W (changed r c) → PlaceSound W (changed_place x c)
+sound_changed W x r c e s R f =
+    let r' = changed r c in
+    subst (SoundRecord W) (seat_record (r'.finished && not r'.awaited) r' R (subst (λ (y : Option JobRecord). changed_place y c ≡ Some R) e f)) s
+
 -- what stands at the job's place after a change
 pub changed_view
     : (x : Option JobRecord) (r : JobRecord) (c : Change) → x ≡ Some r → place_view (changed_place x c) ≡ seat (job_view (changed r c))
@@ -73,6 +96,3 @@ taken_within ps p R l e = elim (cases_lt p 16) [
   | inl i ↦ i
   | inr i ↦ absurd (none_some (ap place_view (sym (e ∙ get_or_past ps p None (omega arith)))))
 ]
-
-pub taken_view : (ps : List (Option JobRecord)) (p : ℕ) (R : JobRecord) → Some R ≡ get_or ps p None → places_view ps p ≡ some (job_view R)
-taken_view ps p R e = ap place_view (sym e)

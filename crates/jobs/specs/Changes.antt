@@ -2,12 +2,12 @@
 use Rattle.std.specs.Prelude.{true, false, cond, not, ◌&&◌, Some, None, Option}
 use Rattle.jobs.specs.declared.record.JobRecord.{JobRecord}
 use Rattle.jobs.specs.declared.change.Change.{Change}
-use Rattle.jobs.specs.declared.change.Change.TheVariants.{Nothing, Held, HeldAndLocked, Worked, Arrived, Ended}
+use Rattle.jobs.specs.declared.change.Change.TheVariants.{Nothing, Held, NewLock, Worked, Arrived, Ended}
 
 abbrev pub changed : JobRecord → Change → JobRecord
 changed r Nothing = r
 changed r (Held h) = record r { held = h }
-changed r (HeldAndLocked h l) = record r { held = h; locked = l }
+changed r (NewLock h l n) = record r { held = h; locked = l; next = n }
 changed r (Worked p) = record r { worked = true; register = p }
 changed r (Arrived s u) = record r { state = s; worked = false; done = u }
 changed r Ended = record r { finished = true }

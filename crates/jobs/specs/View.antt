@@ -1,12 +1,14 @@
 -- Records and places, as the definitions of the table have them.
-use Rattle.std.specs.Prelude.{◌≡◌, ℕ, Bool, true, false, List, Some, None, Option, slice_index_or, slice_set}
+use Rattle.std.specs.Prelude.{◌≡◌, ℕ, ◌⊎◌, Bool, true, false, List, Some, None, Option, slice_index_or, slice_set}
 use Rattle.std.proofs.Math.Option.{none, some}
 use Rattle.std.proofs.Math.Option as math
 use Rattle.itemset.specs.Members.{holds}
-use Rattle.model.specs.Workload.{Workload}
+use Rattle.itemset.specs.declared.ItemSet.{ItemSet}
+use Rattle.model.specs.Workload.{Workload, LocalChild, LocalRoot}
 use Rattle.model.specs.Table.{Job}
 use Rattle.model.specs.Table as model
 use Rattle.model.specs.Sound.{Good}
+use Rattle.rules.specs.Sets.{Exactly}
 use Rattle.jobs.specs.declared.record.JobRecord.{JobRecord}
 use Rattle.jobs.specs.declared.record.StepAnswer.{StepAnswer}
 use Rattle.jobs.specs.declared.record.StepAnswer.TheVariants.{Released, Worked, Locked, Waiting, Gone, Finished}
@@ -37,13 +39,27 @@ places_view ps p = place_view (slice_index_or ps p None)
 abbrev pub Sound : Workload → Job → Type 0
 Sound W J = ∥ ((r : ℕ) × Good W r J) ∥₁
 
--- of the job, if any, of a place
-abbrev pub PlaceSound : Workload → Option JobRecord → Type 0
-PlaceSound W x = (J : Job) → place_view x ≡ some J → Sound W J
+-- a job of the type t that locked these items may lock d next: it never locked d, which is the local root or right below a locked item
+pub record MayLock (W : Workload) (t : ℕ) (locked : ℕ → Bool) (d : ℕ) : Type 0 where
+  pub never_locked : locked d ≡ false
+  pub reached : ∥ LocalRoot W t d ⊎ ((a : ℕ) × LocalChild W t a d × (locked a ≡ true)) ∥₁
 
--- and of every job at a place
+-- the set holds what the job J may lock next, and no other item
+abbrev pub NextOf : Workload → Job → ItemSet → Type 0
+NextOf W J next = Exactly next (MayLock W J.type J.ever_locked)
+
+-- what holds of a record: of its job, and of the items that it keeps to be locked next
+pub record SoundRecord (W : Workload) (R : JobRecord) : Type 0 where
+  pub job : Sound W (job_view R)
+  pub next : NextOf W (job_view R) R.next
+
+-- of the record, if any, of a place
+abbrev pub PlaceSound : Workload → Option JobRecord → Type 0
+PlaceSound W x = (R : JobRecord) → x ≡ Some R → SoundRecord W R
+
+-- and of every record at a place
 abbrev pub AllSound : Workload → List (Option JobRecord) → Type 0
-AllSound W ps = (p : ℕ) (J : Job) → places_view ps p ≡ some J → Sound W J
+AllSound W ps = (p : ℕ) → PlaceSound W (slice_index_or ps p None)
 
 -- the job at the place q holds the item d
 abbrev pub Holding : List (Option JobRecord) → ℕ → ℕ → Type 0

@@ -1,10 +1,10 @@
 // A job that is to make a step, and what it looks up for that.
 ghost use Rattle.std.specs.Prelude.{◌≡◌, ◌<◌, ◌≤◌, MatchOption};
-ghost use Rattle.model.specs.Workload.{Takes, Terminal, Unlockable, choice};
+ghost use Rattle.model.specs.Workload.{Above, Local, LocalChild, Takes, Terminal, Unlockable, choice};
 ghost use Rattle.rules.specs.Plans.{Planned};
 ghost use Rattle.rules.specs.Sets.{Exactly};
 ghost use Rattle.workload.specs.View.{IsState, view};
-ghost use Rattle.jobs.specs.View.{Sound, job_view};
+ghost use Rattle.jobs.specs.View.{SoundRecord};
 
 use crate::record::JobRecord;
 use itemset::ItemSet;
@@ -17,7 +17,7 @@ use workload::definition::Workload;
 pub(crate) struct ActiveJob<'a> {
     pub(crate) workload: &'a Workload,
     pub(crate) job: &'a JobRecord,
-    ghost sound: { Sound (view workload.now) (job_view job.now) },
+    ghost sound: { SoundRecord (view workload.now) job.now },
 }
 
 // Which of `count` arcs a register takes: it is raised to 0 if below, and cut to the last if above.
@@ -56,6 +56,21 @@ impl ActiveJob<'_> {
         }
         let arc = arc_of(self.job.register, state.arc_count);
         Some(state.arcs[arc as usize])
+    }
+
+    // The items on the way from the local root to the state's item.
+    pub(crate) fn way(&self) -> ItemSet
+        ensures { let W = view self.now.workload.now in let j = self.now.job.now in Exactly result (λ d. Local W j.job_type d × Above W d (W.item j.job_type j.state)) }
+    {
+        self.plan().ways[self.job.state as usize]
+    }
+
+    // The items right below d in the local lock tree of the job's type.
+    pub(crate) fn children(&self, d: u8) -> ItemSet
+        requires { d < (view self.now.workload.now).items }
+        ensures { Exactly result (LocalChild (view self.now.workload.now) self.now.job.now.job_type d) }
+    {
+        self.plan().children[d as usize]
     }
 
     // The unlockable set of state s of the job's type.

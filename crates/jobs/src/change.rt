@@ -12,7 +12,12 @@ pub(crate) enum Change {
     // it only waits
     Nothing,
     Held(ItemSet),
-    HeldAndLocked(ItemSet, ItemSet),
+    // it locked an item, so it may lock what is right below
+    NewLock {
+        held: ItemSet,
+        locked: ItemSet,
+        next: ItemSet,
+    },
     // its state's work is done, and left this register
     Worked(i32),
     // it came to a state, and this is its done set there
@@ -28,9 +33,10 @@ impl Change {
         match self {
             Change::Nothing => {}
             Change::Held(held) => job.held = held,
-            Change::HeldAndLocked(held, locked) => {
+            Change::NewLock { held, locked, next } => {
                 job.held = held;
                 job.locked = locked;
+                job.next = next;
             }
             Change::Worked(register) => {
                 job.register = register;

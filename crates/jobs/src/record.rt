@@ -13,6 +13,9 @@ pub struct JobRecord {
     // the items that it holds, and all that it ever locked
     pub held: ItemSet,
     pub locked: ItemSet,
+    // the items that it may lock next: it never locked them, and they are its local root or right below a locked item
+    // in its local lock tree
+    pub next: ItemSet,
     // the items that it will not need again
     pub done: ItemSet,
     pub finished: bool,

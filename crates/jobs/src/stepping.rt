@@ -4,7 +4,7 @@ ghost use Rattle.kinds.specs.View.{view as kind_view};
 ghost use Rattle.model.specs.Table.{Steps};
 ghost use Rattle.workload.specs.View.{view};
 ghost use Rattle.jobs.specs.Changes.{changed};
-ghost use Rattle.jobs.specs.View.{Holding, job_view, told_view};
+ghost use Rattle.jobs.specs.View.{Holding, NextOf, job_view, told_view};
 
 use crate::active::ActiveJob;
 use crate::change::Change;
@@ -23,6 +23,7 @@ impl ActiveJob<'_> {
         shift: &Shift,
     ) -> (StepAnswer, Change)
         ensures steps { Steps (view self.now.workload.now) (kind_view K.Kind) (Holding shift.now.places) (S.ShowingStore.values store.old) (job_view self.now.job.now) (told_view result.0) (S.ShowingStore.values store.new) (job_view (changed self.now.job.now result.1)) }
+        ensures next { let after = changed self.now.job.now result.1 in NextOf (view self.now.workload.now) (job_view after) after.next }
         ensures outside { S.WorkingStore.stays store.old store.new }
     {
         let job = self.job;
@@ -51,7 +52,7 @@ impl ActiveJob<'_> {
         let d = self.wanted();
         match shift.holder(d) {
             Some(q) => (StepAnswer::Waiting(d, q), Change::Nothing),
-            None => (StepAnswer::Locked(d), job.lock(d)),
+            None => (StepAnswer::Locked(d), job.lock(d, self.children(d))),
         }
     }
 }

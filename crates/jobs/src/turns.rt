@@ -21,13 +21,14 @@ impl Shift {
         if place >= 16 {
             return Err(EnterError::NoSuchPlace);
         }
-        if job_type >= self.workload.type_count() {
+        let Some(plan) = self.workload.plan(job_type) else {
             return Err(EnterError::NoSuchType);
-        }
+        };
+        let root = plan.root;
         if self.at(place).is_some() {
             return Err(EnterError::PlaceTaken);
         }
-        self.put(place, Some(JobRecord::new(job_type, argument)));
+        self.put(place, Some(JobRecord::new(job_type, root, argument)));
         Ok(())
     }
 

@@ -9,25 +9,13 @@ use crate::active::ActiveJob;
 
 impl ActiveJob<'_> {
     // The first item never locked on the way from the local root to the state's item.
-    // A job locks from the local root down without a gap, so the way up ends below the first item that it locked.
+    // A job locks from the local root down without a gap, so it is the one on the way that may be locked next.
     pub(crate) fn wanted(&self) -> u8
         requires unworked { self.now.job.now.worked ≡ false }
         requires free { holds self.now.job.now.held ((view self.now.workload.now).item self.now.job.now.job_type self.now.job.now.state) ≡ false }
         ensures wants { Wanted (view self.now.workload.now) (job_view self.now.job.now) result }
         ensures small { result < (view self.now.workload.now).items }
     {
-        let root = self.plan().root;
-        if self.job.locked.is_empty() {
-            return root;
-        }
-        let mut first = self.state().item;
-        while first != root {
-            let above = self.workload.parent(first).unwrap();
-            if self.job.locked.contains(above) {
-                return first;
-            }
-            first = above;
-        }
-        first
+        self.job.next.intersection(self.way()).lowest().unwrap()
     }
 }

@@ -6,7 +6,7 @@ use native.Mathlib.Decide.{dec_lt}
 use Rattle.model.specs.Workload.{Workload, WellFormed, LocalRoot}
 use Rattle.model.proofs.Decide.{dec_unreachable, dec_unlockable, dec_named, dec_local, dec_child, dec_leaf}
 use Rattle.model.proofs.Formed.{told_out}
-use Rattle.model.proofs.Tree.{local_root, root_one}
+use Rattle.model.proofs.Tree.{above?, local_root, root_one}
 use Rattle.model.proofs.Ways.{dec_and, dec_true}
 use Rattle.rules.specs.declared.plan.Plan.{Plan}
 use Rattle.rules.specs.declared.state.State.{State}
@@ -33,6 +33,7 @@ module _ (W : Workload) (F : WellFormed W) (t : ℕ) (ht : t < W.types) (p : Pla
         named = λ d. decided (dec_named W F t ht d) (∥∥₁_map k (λ q. q.named d));
         leaves = λ d. decided (dec_leaf W F t ht p.root the_root d) (∥∥₁_map k (λ q. q.leaves d));
         children = λ d h c. decided (dec_child W F t ht p.root the_root d c) (∥∥₁_map k (λ q. q.children d h c));
+        ways = λ s h d. decided (dec_and (dec_local W F t ht p.root the_root d) (above? W F d (W.item t s) (F.tree (W.item t s) (F.names_item t s ht h)))) (∥∥₁_map k (λ q. q.ways s h d));
         unreachable = λ s h d. decided (dec_and (dec_lt d W.items) (dec_unreachable W F t ht s d h)) (∥∥₁_map k (λ q. q.unreachable s h d));
         unlockable = λ s h d. decided (dec_unlockable W F t ht s d h) (∥∥₁_map k (λ q. q.unlockable s h d));
       }

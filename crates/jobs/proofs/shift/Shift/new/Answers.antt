@@ -1,4 +1,5 @@
-use Rattle.std.proofs.Common.{refl}
+use Rattle.std.proofs.Common.{refl, ap}
+use Rattle.jobs.specs.View.{job_view, place_view}
 use Rattle.jobs.proofs.Lockers.{no_job, none_held}
 use Rattle.jobs.proofs.shift.Shift.new.Goals as goal
 
@@ -6,7 +7,7 @@ pub invariant_of-result : goal.invariant_of-result
 invariant_of-result c =
     record {
       sixteen = refl;
-      sound = λ p J h. absurd (no_job 16 p J h);
+      sound = λ p R e. absurd (no_job 16 p (job_view R) (ap place_view e));
       every_item = refl;
       held = λ q d g. absurd (none_held 16 q d g);
     }

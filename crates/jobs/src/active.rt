@@ -62,7 +62,8 @@ impl ActiveJob<'_> {
     pub(crate) fn way(&self) -> ItemSet
         ensures { let W = view self.now.workload.now in let j = self.now.job.now in Exactly result (λ d. Local W j.job_type d × Above W d (W.item j.job_type j.state)) }
     {
-        self.plan().ways[self.job.state as usize]
+        let above = self.workload.above(self.state().item).unwrap();
+        self.plan().local.intersection(above)
     }
 
     // The items right below d in the local lock tree of the job's type.

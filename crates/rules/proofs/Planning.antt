@@ -13,7 +13,7 @@ use Rattle.rules.specs.declared.state.State.{State}
 use Rattle.rules.specs.Plans.{HasType, Planned}
 use Rattle.rules.specs.Reach.{Converse, Joined, Reaches, here, step}
 use Rattle.rules.specs.Rules.{Arc, Parent, nowhere}
-use Rattle.rules.specs.Sets.{ChildIn, Deepest, Exactly, LeftBehind, NamingOf, NamesAlong, OnWay, item_at}
+use Rattle.rules.specs.Sets.{ChildIn, Deepest, Exactly, LeftBehind, NamingOf, NamesAlong, item_at}
 use Rattle.rules.specs.View.{state_at, workload_of}
 use Rattle.rules.proofs.Formed.{top_marked}
 use Rattle.rules.proofs.Gathering.{reaches_map}
@@ -64,7 +64,6 @@ pub record Made (parents : List ℕ) (states : List State) (p : Plan) : Type 0 w
   pub deepest : Deepest up naming.common p.root
   pub local_is : Exactly p.local (λ d. (d ≡ p.root) ⊎ (Over naming d × (holds naming.common d ≡ true → ⊥)))
   pub children_are : (d : ℕ) → d < 64 → Exactly (get_or p.children d nothing) (ChildIn parents p.local d)
-  pub ways_are : (s : ℕ) → s < 32 → Exactly (get_or p.ways s nothing) (OnWay up states p.local s)
   pub leaves_are : Exactly p.leaves (λ d. (holds naming.named d ≡ true) × (holds naming.above d ≡ true → ⊥))
   pub named_is : p.named ≡ naming.named
   pub arcs : List ItemSet
@@ -115,16 +114,6 @@ module _ (parents : List ℕ) (codes : ℕ) (types : List (List State)) (t : ℕ
     is_root r h =
         let c = common_to r h.inside in
         record { common = c; deepest = λ a f. (Up a r (common_item r c)).0 (h.below_all a (common_from a f)) }
-
-    -- the way down to a state's item, where the states are few
-    is_way
-        : (local : ItemSet) → Exactly local (Local W t) → (ways : List ItemSet)
-        → ((s : ℕ) → s < 32 → Exactly (get_or ways s nothing) (OnWay up (get_or types t []) local s))
-        → (s : ℕ) → s < 32 → s < length (get_or types t []) → Exactly (get_or ways s nothing) (λ d. Local W t d × Above W d (state_at types t s).item)
-    is_way local locals ways are s k h d = (
-      λ e. let q = (are s k d).0 e in ((locals d).0 q.1, (Row d s h).0 q.2),
-      λ q. (are s k d).1 (h, (locals d).1 q.0, (Row d s h).1 q.1),
-    )
 
     -- there is one
     pub has_deepest : ((a : ℕ) → a < 64 → Deepest up n.common a → ⊥) → ⊥
@@ -318,7 +307,6 @@ module _ (parents : List ℕ) (codes : ℕ) (types : List (List State)) (t : ℕ
         named = subst (λ (x : ItemSet). Exactly x (Named W t)) (sym M.named_is) R.names.named;
         leaves = is_leaf M.up M.naming R p.root root p.leaves M.leaves_are;
         children = is_child R.few p.local locals p.children M.children_are;
-        ways = λ s h. is_way M.up M.naming R p.local locals p.ways M.ways_are s (omega (arith, G.short)) h;
         unreachable = are;
         unlockable = is_unlockable M.arcs M.ahead M.behind G p.unreachable M.unreachable_are p.unlockable M.unlockable_are;
       }

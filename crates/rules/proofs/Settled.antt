@@ -1,9 +1,11 @@
 -- Plans that are kept under a truncation say outright what they say: each part is decidable.
-use Rattle.std.proofs.Common.{◌≡◌, ℕ, ◌<◌, Bool, List, [], length, get_or, Decides, refl, subst}
+use Rattle.std.proofs.Common.{◌≡◌, ℕ, ◌<◌, ◌≤◌, arith, Bool, List, [], length, get_or, Decides, refl, subst}
 use mathlib.Core.Logic.{∥∥₁_elim, ∥∥₁_map}
 use native.Mathlib.Nat.{ℕ_set}
 use native.Mathlib.Decide.{dec_lt}
-use Rattle.model.specs.Workload.{Workload, WellFormed, LocalRoot}
+use Rattle.itemset.specs.declared.ItemSet.{ItemSet}
+use Rattle.itemset.specs.Members.{nothing}
+use Rattle.model.specs.Workload.{Workload, WellFormed, Above, LocalRoot}
 use Rattle.model.proofs.Decide.{dec_unreachable, dec_unlockable, dec_named, dec_local, dec_child, dec_leaf}
 use Rattle.model.proofs.Formed.{told_out}
 use Rattle.model.proofs.Tree.{above?, local_root, root_one}
@@ -12,11 +14,27 @@ use Rattle.rules.specs.declared.plan.Plan.{Plan}
 use Rattle.rules.specs.declared.state.State.{State}
 use Rattle.rules.specs.Lawful.{Lawful}
 use Rattle.rules.specs.Plans.{HasType, Kept, PlanFor, Planned, no_plan}
+use Rattle.rules.specs.Reach.{Reaches}
+use Rattle.rules.specs.Rules.{Parent}
+use Rattle.rules.specs.Sets.{Exactly, Rows}
 use Rattle.rules.specs.View.{workload_of}
+use Rattle.rules.proofs.Formed.{top_marked}
+use Rattle.rules.proofs.Matching.{above_reaches, reaches_above}
 
 decided : {P : Type 0} {b : Bool} → Dec P → ∥ Decides b P ∥₁ → Decides b P
 decided {P} {b} (yes x) h = (λ e. x, λ y. told_out (dec_true b) (∥∥₁_map h (λ d. d.1 y)))
 decided {P} {b} (no n) h = (λ e. absurd (∥∥₁_elim h (λ (u v : ⊥). absurd u) (λ d. n (d.0 e))), λ y. absurd (n y))
+
+-- the rows of a tree that are kept under a truncation say outright which items lie above each
+pub above_settled
+    : (parents : List ℕ) (codes : ℕ) (types : List (List State)) (F : WellFormed (workload_of parents codes types)) → length parents ≤ 64 → (rows : List ItemSet)
+    → ∥ Rows 64 rows (Reaches (Parent parents)) ∥₁ → (d : ℕ) → d < length parents → Exactly (get_or rows d nothing) (λ a. Above (workload_of parents codes types) a d)
+above_settled parents codes types F few rows k d i a =
+    decided (above? (workload_of parents codes types) F a d (F.tree d i))
+    (∥∥₁_map k (λ r. let u = r d (omega arith) a in (
+      λ e. reaches_above parents codes types few (top_marked parents F.top_item) (u.0 e),
+      λ g. u.1 (above_reaches parents codes types F.up_item i g),
+    )))
 
 module _ (W : Workload) (F : WellFormed W) (t : ℕ) (ht : t < W.types) (p : Plan) (k : ∥ Planned W t p ∥₁) where
   the_root : LocalRoot W t p.root
@@ -33,7 +51,6 @@ module _ (W : Workload) (F : WellFormed W) (t : ℕ) (ht : t < W.types) (p : Pla
         named = λ d. decided (dec_named W F t ht d) (∥∥₁_map k (λ q. q.named d));
         leaves = λ d. decided (dec_leaf W F t ht p.root the_root d) (∥∥₁_map k (λ q. q.leaves d));
         children = λ d h c. decided (dec_child W F t ht p.root the_root d c) (∥∥₁_map k (λ q. q.children d h c));
-        ways = λ s h d. decided (dec_and (dec_local W F t ht p.root the_root d) (above? W F d (W.item t s) (F.tree (W.item t s) (F.names_item t s ht h)))) (∥∥₁_map k (λ q. q.ways s h d));
         unreachable = λ s h d. decided (dec_and (dec_lt d W.items) (dec_unreachable W F t ht s d h)) (∥∥₁_map k (λ q. q.unreachable s h d));
         unlockable = λ s h d. decided (dec_unlockable W F t ht s d h) (∥∥₁_map k (λ q. q.unlockable s h d));
       }

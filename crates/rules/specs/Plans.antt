@@ -1,6 +1,6 @@
 -- What a plan says of its job type.
 use Rattle.std.specs.Prelude.{◌≡◌, ℕ, ◌<◌, ◌≤◌, List, [], length, get_or, slice_index_or}
-use Rattle.model.specs.Workload.{Workload, WellFormed, Above, Unreachable, Unlockable, Named, LocalRoot, Local, LocalChild, LocalLeaf}
+use Rattle.model.specs.Workload.{Workload, WellFormed, Unreachable, Unlockable, Named, LocalRoot, Local, LocalChild, LocalLeaf}
 use Rattle.itemset.specs.Members.{nothing}
 use Rattle.rules.specs.declared.plan.Plan.{Plan}
 use Rattle.rules.specs.declared.state.State.{State}
@@ -15,8 +15,6 @@ pub record Planned (W : Workload) (t : ℕ) (p : Plan) : Type 0 where
   pub named : Exactly p.named (Named W t)
   pub leaves : Exactly p.leaves (LocalLeaf W t)
   pub children : (d : ℕ) → d < W.items → Exactly (slice_index_or p.children d nothing) (LocalChild W t d)
-  -- from the local root down to the state's item
-  pub ways : (s : ℕ) → s < W.states t → Exactly (slice_index_or p.ways s nothing) (λ d. Local W t d × Above W d (W.item t s))
   -- of the numbers that no way from s names, the set holds the items
   pub unreachable : (s : ℕ) → s < W.states t → Exactly (slice_index_or p.unreachable s nothing) (λ d. (d < W.items) × Unreachable W t s d)
   pub unlockable : (s : ℕ) → s < W.states t → Exactly (slice_index_or p.unlockable s nothing) (Unlockable W t s)
@@ -40,7 +38,7 @@ NoType parents states =
 
 -- past the end of a list of plans
 abbrev pub no_plan : Plan
-no_plan = record { root = 0; local = nothing; named = nothing; leaves = nothing; children = []; ways = []; unreachable = []; unlockable = [] }
+no_plan = record { root = 0; local = nothing; named = nothing; leaves = nothing; children = []; unreachable = []; unlockable = [] }
 
 -- the plans are those of the types, in their order
 pub record Kept (W : Workload) (plans : List Plan) : Type 0 where

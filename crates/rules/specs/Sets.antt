@@ -36,10 +36,6 @@ pub record NamingOf (parents : List ℕ) (rows : List ItemSet) (states : List St
   -- a is, or lies above, the item of each state
   pub common : Exactly n.common (λ a. (a < 64) × ((s : ℕ) → s < length states → Joined rows (item_at states s) a))
 
--- d is in the set, and the rows join the item of the state s to it
-abbrev pub OnWay : List ItemSet → List State → ItemSet → ℕ → ℕ → Type 0
-OnWay rows states set s d = (s < length states) × (holds set d ≡ true) × Joined rows (item_at states s) d
-
 -- a is in the set, and its row has all that is in the set
 pub record Deepest (rows : List ItemSet) (set : ItemSet) (a : ℕ) : Type 0 where
   pub inside : holds set a ≡ true

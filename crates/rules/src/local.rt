@@ -1,13 +1,10 @@
 // The local lock tree of a job type. A relation here joins each item to itself and the items above it,
 // or to its children.
-ghost use Rattle.std.specs.Prelude.{◌≡◌, ℕ, ◌<◌, true, MatchOption};
-ghost use Rattle.itemset.specs.Members.{holds};
-ghost use Rattle.rules.specs.Reach.{Joined};
-ghost use Rattle.rules.specs.Sets.{ChildIn, Deepest, Exactly, OnWay, Rows};
+ghost use Rattle.std.specs.Prelude.{ℕ, ◌<◌, MatchOption};
+ghost use Rattle.rules.specs.Sets.{ChildIn, Deepest, Exactly, Rows};
 
 use crate::closure::Relation;
 use crate::tree::LockTree;
-use crate::ways::Graph;
 use itemset::ItemSet;
 
 impl Relation<64> {
@@ -41,26 +38,5 @@ impl<'a> LockTree<'a> {
         ensures { Rows 64 result.rows (ChildIn self.now.tree.parents.now set) }
     {
         Relation::from_fn(|d| self.children_of(d, set))
-    }
-
-    // The items of the set that are item d or lie above it; none where there is no such item.
-    fn way_up(&self, d: u8, set: ItemSet) -> ItemSet
-        ensures { Exactly result (λ a. (holds set a ≡ true) × Joined self.now.above.rows d a) }
-    {
-        if d >= 64 {
-            return ItemSet::empty();
-        }
-        self.above.rows[d as usize].intersection(set)
-    }
-
-    // For each state the items of the set that are its item or lie above it. Most types have few of the 32 states.
-    pub(crate) fn ways_in(&self, graph: &Graph, set: ItemSet) -> Relation<32>
-        ensures { Rows 32 result.rows (OnWay self.now.above.rows graph.now.states.now set) }
-    {
-        let mut rows = [ItemSet::empty(); 32];
-        for (s, state) in graph.states.iter().enumerate() {
-            rows[s] = self.way_up(state.item, set);
-        }
-        Relation { rows }
     }
 }

@@ -21,8 +21,6 @@ pub struct Plan {
     pub leaves: ItemSet,
     // for each item its children in the local lock tree
     pub children: [ItemSet; 64],
-    // for each state the items on the way from the local root to its item, both included
-    pub ways: [ItemSet; 32],
     // for each state its unreachable and its unlockable set
     pub unreachable: [ItemSet; 32],
     pub unlockable: [ItemSet; 32],
@@ -39,7 +37,6 @@ pub fn plan_of(lock: &LockTree, states: &[State]) -> Option<Plan>
     let local = naming.local_items(root);
     let leaves = naming.leaves();
     let children = lock.children_in(local).rows;
-    let ways = lock.ways_in(&graph, local).rows;
     let arcs = graph.arcs();
     let names = graph.names();
     let ahead = graph.named_ahead(names, &arcs);
@@ -54,7 +51,6 @@ pub fn plan_of(lock: &LockTree, states: &[State]) -> Option<Plan>
         named: naming.named,
         leaves,
         children,
-        ways,
         unreachable,
         unlockable,
     })

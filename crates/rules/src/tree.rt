@@ -139,4 +139,11 @@ impl<'a> LockTree<'a> {
     {
         self.tree.parents
     }
+
+    // For each item itself and the items above it.
+    pub fn ways_up(&self) -> [ItemSet; 64]
+        ensures { result ≡ self.now.above.rows }
+    {
+        self.above.rows
+    }
 }

@@ -19,8 +19,5 @@ unlockable_item w t s d i u =
 pub unlockable_items : (w : Workload) (t s : ℕ) (p : Plan) → Planned (view w) t p → HasState (view w) t s → ItemsOf (view w) (Unlockable (view w) t s) (slice_index_or p.unlockable s nothing)
 unlockable_items w t s p q h = λ d. search (rules, q.unlockable s h.1 d, unlockable_item w t s d h.0)
 
-local_item : (w : Workload) (t d : ℕ) → t < (view w).types → Local (view w) t d → d < (view w).items
+pub local_item : (w : Workload) (t d : ℕ) → t < (view w).types → Local (view w) t d → d < (view w).items
 local_item w t d i l = tree.local_item (view w) (well_formed w) t i l
-
-pub local_items : (w : Workload) (t : ℕ) (p : Plan) → Planned (view w) t p → t < (view w).types → ItemsOf (view w) (Local (view w) t) p.local
-local_items w t p q h = λ d. search (rules, q.local d, local_item w t d h)

@@ -49,7 +49,7 @@ pub fn local_root(workload: &Workload, t: u8) -> Option<u8>
 }
 
 // The items of the local lock tree of type t. Nothing where there is no such type.
-#[tactic(auto, using(crate::proofs::Within::local_items))]
+#[tactic(auto, using(crate::proofs::Within::local_item))]
 pub fn local_items(workload: &Workload, t: u8) -> Option<ItemSet>
     ensures { Answers result (t < (view workload.now).types) (ItemsOf (view workload.now) (Local (view workload.now) t)) }
 {

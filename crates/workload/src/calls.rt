@@ -1,11 +1,13 @@
 // What a workload tells of itself: each call is a look-up.
 ghost use Rattle.std.specs.Prelude.{◌≡◌, ◌<◌, ◌≤◌, true, [], vec_items, slice_index_or};
-ghost use Rattle.model.specs.Workload.{WellFormed};
+ghost use Rattle.model.specs.Workload.{Above, WellFormed};
+ghost use Rattle.rules.specs.Sets.{Exactly};
 ghost use Rattle.rules.specs.Plans.{Planned};
 ghost use Rattle.workload.specs.Types.{all_states};
 ghost use Rattle.workload.specs.View.{Answers, HasParent, HasState, IsState, view};
 
 use crate::definition::{JobType, Workload};
+use itemset::ItemSet;
 use rules::plan::Plan;
 use rules::state::State;
 use rules::tree::ROOT_MARK;
@@ -72,6 +74,16 @@ impl Workload {
     {
         let parent = *self.parents.get(d as usize)?;
         (parent != ROOT_MARK).then_some(parent)
+    }
+
+    // Item d and the items above it; nothing where there is no such item.
+    pub fn above(&self, d: u8) -> Option<ItemSet>
+        ensures { Answers result (d < (view self.now).items) (λ x. Exactly x (λ a. Above (view self.now) a d)) }
+    {
+        if d as usize >= self.parents.len() {
+            return None;
+        }
+        Some(self.above[d as usize])
     }
 
     // State s of type t; nothing where there is no such state.

@@ -64,7 +64,6 @@ returns c =
       deepest = c.in_ok-root.ensures;
       local_is = c.local_items-local.ensures;
       children_are = c.children_in.ensures;
-      ways_are = c.ways_in-arcs.ensures;
       leaves_are = c.leaves-leaves.ensures;
       named_is = refl;
       arcs = arcs.rows;

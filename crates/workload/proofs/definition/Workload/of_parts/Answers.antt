@@ -1,7 +1,11 @@
-use Rattle.std.proofs.Common.{ℕ, List, vec_items, sym, ◌∙◌, subst₂, arith}
+use Rattle.std.proofs.Common.{ℕ, List, vec_items, sym, ap, ◌∙◌, length, subst₂, arith}
 use Rattle.rules.specs.declared.state.State.{State}
 use Rattle.rules.specs.Lawful.{Lawful}
+use Rattle.itemset.specs.declared.ItemSet.{ItemSet}
 use Rattle.rules.specs.Plans.{Kept}
+use Rattle.rules.specs.Reach.{Reaches}
+use Rattle.rules.specs.Rules.{Parent}
+use Rattle.rules.specs.Sets.{Rows}
 use Rattle.rules.specs.View.{workload_of}
 use Rattle.workload.specs.Types.{all_plans, all_states}
 use Rattle.workload.proofs.Lists.{few_arcs, four_bytes, length_all}
@@ -27,5 +31,7 @@ invariant_of-result c =
       few = few_arcs ps n (all_states all) l;
       four = four_bytes ps n (all_states all) l;
       lawful = ∣ l ∣₁;
+      rows = ap length c.ways_up.ensures ∙ c.args.lock.now.above.long;
+      ways_up = subst₂ (λ (x : List ℕ) (y : List ItemSet). ∥ Rows 64 y (Reaches (Parent x)) ∥₁) same (sym c.ways_up.ensures) c.args.lock.now.above_are;
       planned = ∣ k ∣₁;
     }

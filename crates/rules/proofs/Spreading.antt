@@ -1,8 +1,7 @@
 -- Rows that take over what others hold, until they hold all that is ahead of them.
-use Rattle.std.proofs.Common.{◌≡◌, ℕ, zero, suc, ◌+◌, ◌-◌, ◌*◌, ◌<◌, ◌≤◌, ◌⊎◌, Bool, true, false, not, ◌&&◌, ◌||◌, eqb, List, [], ◌∷◌, Option, Some, None, MatchOption, length, get_or, set, get_or-set_same, get_or-set_other, Decides, sym, refl, ap, ◌∙◌, subst, inl, inr, arith}
+use Rattle.std.proofs.Common.{◌≡◌, ℕ, ◌+◌, ◌-◌, ◌<◌, ◌⊎◌, Bool, true, false, not, ◌&&◌, ◌||◌, eqb, List, Option, Some, None, MatchOption, length, get_or, set, get_or-set_same, get_or-set_other, Decides, sym, refl, ap, ◌∙◌, subst, inl, inr, arith}
 use Rattle.std.specs.Option.{is_some}
-use Rattle.std.proofs.lemmas.Bool.{and_from, and_parts, both_ways, cases_Bool, cases_eq, eqb-true, false_from_ne_true, false≢true, not-false, not-true, not_from_false, or_cases, or_left, or_right, true≢false}
-use Rattle.itemset.proofs.Counting.{count, count_within, fewer, no_more}
+use Rattle.std.proofs.lemmas.Bool.{and_from, and_parts, both_ways, cases_Bool, cases_eq, eqb-true, false≢true, not-false, not-true, not_from_false, or_cases, or_left, or_right, true≢false}
 use Rattle.itemset.specs.declared.ItemSet.{ItemSet}
 use Rattle.itemset.specs.Members.{holds, nothing}
 use Rattle.rules.specs.declared.closure.Order.{Order}
@@ -10,7 +9,7 @@ use Rattle.rules.specs.declared.closure.Order.TheVariants.{Up, Down}
 use Rattle.rules.specs.Reach.{Ahead, Gains, HeldBy, Joined, Keeps, Pulls, Reaches, TakesOver, here, step, turn}
 use Rattle.rules.specs.Sets.{Exactly}
 use Rattle.rules.proofs.Members.{Done, done_before, done_now, done_still, left_within}
-use Rattle.rules.proofs.Rows.{joined_within, reaches_on}
+use Rattle.rules.proofs.Rows.{reaches_on}
 
 -- of the set's numbers some are done, and what their rows hold is held
 pub record Gathers (rows : List ItemSet) (set rest held : ItemSet) : Type 0 where
@@ -33,38 +32,6 @@ module _ (rows : List ItemSet) (set rest left held more : ItemSet) (d : ℕ) (G 
         | inl i ↦ (took t).1 (inl ((G.each t).1 (q.0, i, q.2)))
         | inr s ↦ (took t).1 (inr (subst (λ (x : ℕ). Joined rows x t) s q.2))
       ]
-
--- how many numbers the rows hold
-abbrev pub total : List ItemSet → ℕ
-total [] = 0
-total (x ∷ xs) = count x 64 + total xs
-
-pub total_within : (xs : List ItemSet) → total xs ≤ 64 * length xs
-total_within [] = omega arith
-total_within (x ∷ xs) = let i = total_within xs in let j = count_within x 64 in omega arith
-
-total_kept : (xs ys : List ItemSet) → length ys ≡ length xs → Keeps xs ys → total xs ≤ total ys
-total_kept [] ys l k = omega arith
-total_kept (x ∷ xs) [] l k = absurd (omega arith)
-total_kept (x ∷ xs) (y ∷ ys) l k =
-    let i = total_kept xs ys (omega arith) (λ s. k (suc s)) in
-    let j = no_more y x (k 0) 64 in
-    omega arith
-
-total_more : (xs ys : List ItemSet) → length ys ≡ length xs → Keeps xs ys → (s t : ℕ) → t < 64 → Joined ys s t → (Joined xs s t → ⊥) → total xs < total ys
-total_more xs [] l k s t h i n = absurd (let b = joined_within [] s t i in omega arith)
-total_more [] (y ∷ ys) l k s t h i n = absurd (omega arith)
-total_more (x ∷ xs) (y ∷ ys) l k zero t h i n =
-    let a = total_kept xs ys (omega arith) (λ s. k (suc s)) in
-    let b = fewer y x (k 0) t i (false_from_ne_true (holds x t) n) 64 h in
-    omega arith
-total_more (x ∷ xs) (y ∷ ys) l k (suc s) t h i n =
-    let a = total_more xs ys (omega arith) (λ r. k (suc r)) s t h i n in
-    let b = no_more y x (k 0) 64 in
-    omega arith
-
-pub total_grows : (xs ys : List ItemSet) → length ys ≡ length xs → Keeps xs ys → Gains xs ys → total xs < total ys
-total_grows xs ys l k g = total_more xs ys l k g.0 g.1 g.2 g.3 g.4
 
 -- the lowest number of a set that has one
 pub lowest_of
@@ -275,3 +242,10 @@ spread_all E first rows S closed s t = (S.only s t, λ a. on a.1 (S.kept a.0 t a
     on : {r m : ℕ} → Reaches E r m → Joined rows m t → Joined rows r t
     on here h = h
     on (step {s = r} {m = m} e p) h = closed r m t e (on p h)
+
+-- what is ahead of rows that took over nothing else is what was ahead of them at first
+pub ahead_still : (E : ℕ → ℕ → Type 0) (first rows : List ItemSet) → Spreads E first rows → (s : ℕ) (x : ItemSet) → Exactly x (Ahead E rows s) → Exactly x (Ahead E first s)
+ahead_still E first rows S s x h t = (
+  λ i. let a = (h t).0 i in let b = S.only a.0 t a.2 in (b.0, reaches_on a.1 b.1, b.2),
+  λ a. (h t).1 (a.0, a.1, S.kept a.0 t a.2),
+)

@@ -28,6 +28,19 @@ Converse E s m = E m s
 abbrev pub Ahead : (ℕ → ℕ → Type 0) → List ItemSet → ℕ → ℕ → Type 0
 Ahead E rows s t = (m : ℕ) × Reaches E s m × Joined rows m t
 
+-- each row that held k took over what row k held, and no row anything else
+pub record Through (old new : List ItemSet) (k : ℕ) : Type 0 where
+  pub only : (s t : ℕ) → Joined new s t → Joined old s t ⊎ (Joined old s k × Joined old k t)
+  pub kept : (s t : ℕ) → Joined old s t → Joined new s t
+  pub made : (s t : ℕ) → Joined old s k → Joined old k t → Joined new s t
+
+-- the new rows join each number to all that ways along the old ones lead to, but for the way of no step
+pub record Closed (old new : List ItemSet) : Type 0 where
+  pub sound : (s t : ℕ) → Joined new s t → Reaches (Joined old) s t
+  pub complete : (s t : ℕ) → Reaches (Joined old) s t → (t ≡ s) ⊎ Joined new s t
+  -- each way ends with a step
+  pub ends : (s t : ℕ) → Joined new s t → (m : ℕ) × Joined old m t
+
 -- each row still holds what it held
 abbrev pub Keeps : List ItemSet → List ItemSet → Type 0
 Keeps old new = (s t : ℕ) → Joined old s t → Joined new s t

@@ -1,11 +1,15 @@
 // Relations on numbers, each held as a row of sets.
 ghost use Rattle.std.specs.Prelude.{◌≡◌, ℕ, ◌<◌, ◌≤◌, ◌⊎◌, true, length, slice_index_or};
-ghost use Rattle.rules.specs.Reach.{Ahead, Converse, Gives, Grows, HeldBy, Joined, Pulls, ReachedFrom, TakesIn, TakesOver, along, turn};
+ghost use Rattle.rules.specs.Reach.{Ahead, Closed, Converse, Gives, Grows, HeldBy, Joined, Pulls, ReachedFrom, TakesIn, TakesOver, Through, along, turn};
 ghost use Rattle.rules.specs.Sets.{Exactly, Rows};
 ghost use Rattle.itemset.specs.Members.{holds, nothing};
 
 use crate::places::{below, meet};
 use itemset::ItemSet;
+
+// After so many turns of the rows the relation is closed, in place of further turns: some orders of the numbers would take one for
+// each number.
+const TURNS: u32 = 4;
 
 // The set of one number.
 pub(crate) fn only(d: usize) -> ItemSet
@@ -109,6 +113,49 @@ impl<const N: usize> Relation<N> {
         held
     }
 
+    // Each row takes over what the row of its number in the other relation holds.
+    fn unite(&mut self, other: &Relation<N>)
+        ensures { Rows N self.new.rows (λ s t. Joined self.old.rows s t ⊎ Joined other.now.rows s t) }
+    {
+        for (s, row) in self.rows.iter_mut().enumerate() {
+            *row = row.union(other.rows[s]);
+        }
+    }
+
+    // Each row takes over what the rows held to which the other relation joins its number.
+    fn take_all(&mut self, along: &Relation<N>)
+        ensures { Rows N self.new.rows (λ s t. Joined self.old.rows s t ⊎ HeldBy self.old.rows (slice_index_or along.now.rows s nothing) t) }
+    {
+        let first = *self;
+        for (s, row) in self.rows.iter_mut().enumerate() {
+            *row = row.union(first.held_by(along.rows[s]));
+        }
+    }
+
+    // Each row that holds k takes over what row k holds.
+    fn join_through(&mut self, k: usize)
+        requires { k < N }
+        ensures { Through self.old.rows self.new.rows k }
+    {
+        let via = self.rows[k];
+        for row in self.rows.iter_mut() {
+            if row.contains(k as u8) {
+                *row = row.union(via);
+            }
+        }
+    }
+
+    // The relation that joins each number to all that ways of one step or more lead to from it.
+    fn closed(&self) -> Relation<N>
+        ensures { Closed self.now.rows result.rows }
+    {
+        let mut closed = *self;
+        for k in 0..N {
+            closed.join_through(k);
+        }
+        closed
+    }
+
     // Row s takes over what the set holds. Tells whether it lacked any of that.
     fn take_over(&mut self, s: usize, set: ItemSet) -> bool
         requires { s < N }
@@ -151,7 +198,12 @@ impl<const N: usize> Relation<N> {
         requires within { (s m : ℕ) → Joined along.now.rows s m → s < count }
         ensures { Rows N self.new.rows (Ahead (Joined along.now.rows) self.old.rows) }
     {
-        while self.pull(along, count, order) {}
+        for _ in 0..TURNS {
+            if !self.pull(along, count, order) {
+                return;
+            }
+        }
+        self.take_all(&along.closed());
     }
 
     // The rows of the numbers take over what the set holds. Tells whether any lacked some of that.
@@ -197,7 +249,12 @@ impl<const N: usize> Relation<N> {
         requires within { (s m : ℕ) → Joined along.now.rows s m → (s < count) × (m < count) }
         ensures { Rows N self.new.rows (Ahead (Converse (Joined along.now.rows)) self.old.rows) }
     {
-        while self.push(along, count) {}
+        for _ in 0..TURNS {
+            if !self.push(along, count) {
+                return;
+            }
+        }
+        self.unite(&self.handed_on(&along.closed()));
     }
 
     // For each number what the rows of those hold that the other relation joins to it.

@@ -1,16 +1,18 @@
 use Rattle.std.proofs.Common.{arith}
 use Rattle.rules.specs.Reach.{Converse, Joined}
-use Rattle.rules.proofs.Spreading.{spread_all, spreads_more, spreads_none, total_grows, total_within}
+use Rattle.rules.proofs.Closing.{behind_closed}
+use Rattle.rules.proofs.Spreading.{ahead_still, spread_all, spreads_more, spreads_none}
 use Rattle.rules.proofs.closure.Relation.spread_on.Goals as goal
 
 pub loop-init : goal.loop-init
 loop-init g c = spreads_none (Converse (Joined c.args.along.now.rows)) c.args.self.now.rows
 
-pub loop-smaller : goal.loop-smaller
-loop-smaller g c =
-    let old = c.loop.self.rows in
+pub returns-then-not-push : goal.returns-then-not-push
+returns-then-not-push g c =
+    let E = Converse (Joined c.args.along.now.rows) in
+    let first = c.args.self.now.rows in
     let new = c.push.new.self.rows in
-    omega (arith, total_grows old new (omega arith) c.push.ensures.kept (c.push.ensures.loud c.loop-test.true), total_within new)
+    λ s l. spread_all E first new (spreads_more E first c.loop.self.rows new c.push.result (omega arith) c.loop.invariant c.push.ensures) (c.push.ensures.quiet c.if-not-push.true) s
 
 pub loop-preserved : goal.loop-preserved
 loop-preserved g c =
@@ -18,7 +20,6 @@ loop-preserved g c =
 
 pub returns : goal.returns
 returns g c =
-    let E = Converse (Joined c.args.along.now.rows) in
-    let first = c.args.self.now.rows in
-    let new = c.push.new.self.rows in
-    λ s l. spread_all E first new (spreads_more E first c.loop.self.rows new c.push.result (omega arith) c.loop.invariant c.push.ensures) (c.push.ensures.quiet c.loop-test.false) s
+    let rows = c.loop.self.rows in
+    λ s l. ahead_still (Converse (Joined c.args.along.now.rows)) c.args.self.now.rows rows c.loop.invariant s _
+    (behind_closed c.args.along.now.rows c.closed.result.rows rows c.closed.ensures s _ _ (c.handed_on.ensures s (omega arith)) (c.unite.ensures s (omega arith)))

@@ -34,6 +34,7 @@ impl Shift {
     pub fn new(workload: Workload) -> Shift
         ensures workload { result.workload ≡ workload }
         ensures empty { result.places ≡ replicate 16 None }
+        ensures lockers { result.lockers ≡ replicate 64 0 }
     {
         Shift {
             workload,
@@ -85,6 +86,7 @@ impl Shift {
         requires locked { LockedAt self.old.lockers place there }
         ensures workload { self.new.workload ≡ self.old.workload }
         ensures places { self.new.places ≡ slice_set self.old.places place there }
+        ensures lockers { self.new.lockers ≡ self.old.lockers }
     {
         self.places[place as usize] = there;
     }
@@ -96,6 +98,7 @@ impl Shift {
         requires locked { LockedAt self.old.lockers place (changed_place (slice_index_or self.old.places place None) change) }
         ensures workload { self.new.workload ≡ self.old.workload }
         ensures places { self.new.places ≡ slice_set self.old.places place (changed_place (slice_index_or self.old.places place None) change) }
+        ensures lockers { self.new.lockers ≡ self.old.lockers }
     {
         change.write(&mut self.places[place as usize]);
     }

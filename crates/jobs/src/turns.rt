@@ -1,10 +1,11 @@
 // What is done at one of the sixteen places: the record there changes, and the fifteen others are as they were.
-// That the workload stays is a clause of each: a word for it would be no shorter.
+// That the workload stays, and what becomes of the row of lockers, is a clause of each: a word for it would be no shorter.
 ghost use Rattle.std.specs.Prelude.{◌≡◌, true, false, Some, None, MatchOption, slice_index_or, slice_set};
 ghost use Rattle.jobs.specs.declared.record.JobRecord.{JobRecord};
 ghost use Rattle.kinds.specs.View.{view as kind_view};
 ghost use Rattle.workload.specs.View.{view};
 ghost use Rattle.jobs.specs.Turns.{Entered, Stepped, Unawaited};
+ghost use Rattle.jobs.specs.View.{lockers_after};
 
 use crate::active::ActiveJob;
 use crate::record::{EnterError, JobRecord, StepAnswer};
@@ -17,6 +18,7 @@ impl Shift {
     pub fn enter(&mut self, place: u8, job_type: u8, argument: i32) -> Result<(), EnterError>
         ensures workload { self.new.workload ≡ self.old.workload }
         ensures entered { Entered self.old.places place self.new.places (view self.old.workload) job_type argument result }
+        ensures lockers { self.new.lockers ≡ self.old.lockers }
     {
         if place >= 16 {
             return Err(EnterError::NoSuchPlace);
@@ -48,6 +50,7 @@ impl Shift {
     ) -> Option<StepAnswer>
         ensures workload { self.new.workload ≡ self.old.workload }
         ensures stepped { Stepped self.old.places place self.new.places (view self.old.workload) (kind_view K.Kind) (S.ShowingStore.values store.old) (S.ShowingStore.values store.new) result }
+        ensures lockers { MatchOption result (self.new.lockers ≡ self.old.lockers) (λ told. self.new.lockers ≡ lockers_after self.old.lockers place told) }
         ensures outside { S.WorkingStore.stays store.old store.new }
     {
         let job = self.unfinished(place)?;
@@ -65,6 +68,7 @@ impl Shift {
     pub fn clear(&mut self, place: u8)
         ensures workload { self.new.workload ≡ self.old.workload }
         ensures places { self.new.places ≡ slice_set self.old.places place None }
+        ensures lockers { self.new.lockers ≡ self.old.lockers }
     {
         if place < 16 {
             self.put(place, None);
@@ -75,6 +79,7 @@ impl Shift {
     pub fn unawait(&mut self, place: u8)
         ensures workload { self.new.workload ≡ self.old.workload }
         ensures unawaited { Unawaited self.old.places place self.new.places }
+        ensures lockers { self.new.lockers ≡ self.old.lockers }
     {
         if let Some(job) = self.at(place) {
             self.put(place, Some(job.left_alone()));
